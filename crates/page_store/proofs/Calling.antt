@@ -47,9 +47,9 @@ held-by-ok s p e = grind (arith, tells)
 
 pub free-by-err : (s : Pages) (p : ℕ) (e : StoreRefusal) → Err e ≡ answer s p → isSome (at s p) ≡ false
 free-by-err s p e h = ⊎-elim
-  (λ (k : Held s p). let a = answer-held s p k in let z : _≡_ {A = ℕ} 0 1 = cc in absurd (omega arith))
-  (λ (k : isSome (at s p) ≡ false). k)
-  (cases-bool (isSome (at s p)))
+    (λ (k : Held s p). let a = answer-held s p k in let z : _≡_ {A = ℕ} 0 1 = cc in absurd (omega arith))
+    (λ (k : isSome (at s p) ≡ false). k)
+    (cases-bool (isSome (at s p)))
 
 pub changed-held : (s : Pages) (p : ℕ) (x : Option Words) → Held s p → changed s p x ≡ set s p x
 unfolding changed
@@ -72,10 +72,10 @@ pub record ReadOk (s t : Pages) (p : ℕ) (v : Words) : Type 0 where
   pub pages : t ≡ s
 
 pub read-ok : {s t : Pages} {p : ℕ} {w v : Words} → Reads s t p w v (Ok tt) → ReadOk s t p v
-read-ok {s} {t} {p} {w} {v} h = record
-  { words = some-value (at s p) v w (held-by-ok s p (h .answers)) (h .buffer)
-  ; pages = h .pages
-  }
+read-ok {s} {t} {p} {w} {v} h = record {
+  words = some-value (at s p) v w (held-by-ok s p (h .answers)) (h .buffer);
+  pages = h .pages;
+}
 
 pub record Refused (s t : Pages) (p : ℕ) : Type 0 where
   pub free : isSome (at s p) ≡ false

@@ -15,9 +15,9 @@ use Rattle.page_store.specs.Pages.{Pages, Words, at, one-if-free, free-pages}
 
 pub held-below : (s : Pages) (p : ℕ) → isSome (at s p) ≡ true → p < length s
 held-below s p h = ⊎-elim
-  (λ (l : p < length s). l)
-  (λ (l : length s ≤ p). absurd (both-ways _ (ap isSome (getD-past s p None l)) h))
-  (cases-lt p (length s))
+    (λ (l : p < length s). l)
+    (λ (l : length s ≤ p). absurd (both-ways _ (ap isSome (getD-past s p None l)) h))
+    (cases-lt p (length s))
 
 pub none-from : (x : Option Words) → isSome x ≡ false → x ≡ None
 none-from None h = refl

@@ -52,9 +52,9 @@ returns g c = λ h.
     let b = c .in-Continue-give-back .ensures tt (r .0) in
     let back = give-ok (b .1) in
     let same = held-written _ _ _ _ _ (k .1) (write-ok (w .1)) in
-    let got = read-ok (r .1) .words in
-    ( b .0
-    , undone _ _ _ _ _ _ (k .1) (write-ok (w .1)) (record { held = ap isSome same; pages = back .pages ∙ ap (λ (x : Pages). set x (c .in-Continue-page .page) None) (read-ok (r .1) .pages) })
-    , same-words _ _ _ got same
-    , (k .1 .within, k .1 .was-free)
+    let got = read-ok (r .1) .words in (
+      b .0,
+      undone _ _ _ _ _ _ (k .1) (write-ok (w .1)) (record { held = ap isSome same; pages = back .pages ∙ ap (λ (x : Pages). set x (c .in-Continue-page .page) None) (read-ok (r .1) .pages) }),
+      same-words _ _ _ got same,
+      (k .1 .within, k .1 .was-free),
     )

@@ -1,0 +1,4 @@
+pub mod Slots
+pub mod Policy
+pub mod Over
+pub mod Cached
