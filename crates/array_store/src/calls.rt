@@ -3,7 +3,7 @@ ghost use Prim.Native.Nat.{_/_, _<_, min};
 ghost use lib.ListN.{length, replicate};
 ghost use Rattle.std.specs.Of.Vec.{vec-len, vec-items};
 ghost use Rattle.std.specs.declared.option.Option.the-variants.{None};
-ghost use Rattle.page_store.specs.Pages.{free-pages};
+ghost use Rattle.page_store.specs.Pages.{zeros};
 ghost use Rattle.page_store.specs.Refusals.{answer};
 ghost use Rattle.page_store.specs.Calls.{Took, Takes, Reads, Writes, GivesBack};
 ghost use Rattle.array_store.specs.Layout.{cleared};
@@ -77,7 +77,7 @@ impl ArrayStore {
     // Takes the page that was given back last.
     fn take_listed(&mut self) -> u32
         requires { ⌜ 0 < now self .listed ⌝ }
-        ensures took { λ r. ⌜ Took (pages-in (now (self .entry))) (pages-in (now (self .exit))) r ⌝ }
+        ensures took { λ r. ⌜ Took (pages-in (now (self .entry))) (pages-in (now (self .exit))) zeros r ⌝ }
         ensures past { λ _. ⌜ words-past (now (self .exit)) ≡ words-past (now (self .entry)) ⌝ }
     {
         let page = self.head;
@@ -90,7 +90,7 @@ impl ArrayStore {
     // Takes the first page that has not been taken yet.
     fn take_fresh(&mut self) -> u32
         requires { ⌜ now self .fresh < now self .size ⌝ }
-        ensures took { λ r. ⌜ Took (pages-in (now (self .entry))) (pages-in (now (self .exit))) r ⌝ }
+        ensures took { λ r. ⌜ Took (pages-in (now (self .entry))) (pages-in (now (self .exit))) zeros r ⌝ }
         ensures past { λ _. ⌜ words-past (now (self .exit)) ≡ words-past (now (self .entry)) ⌝ }
     {
         let page = self.fresh;
@@ -115,7 +115,7 @@ pub impl PageStore for ArrayStore as ArrayPages {
     }
 
     fn take(&mut self) -> Result<u32, StoreRefusal>
-        ensures takes { λ r. ⌜ Takes (pages-in (now (self .entry))) (pages-in (now (self .exit))) r ⌝ }
+        ensures takes { λ r. ⌜ Takes (pages-in (now (self .entry))) (pages-in (now (self .exit))) zeros r ⌝ }
         ensures past { λ _. ⌜ words-past (now (self .exit)) ≡ words-past (now (self .entry)) ⌝ }
     {
         if self.listed > 0 {

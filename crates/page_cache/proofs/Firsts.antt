@@ -41,16 +41,17 @@ pub record Found (f : Slot → Bool) (ks : List Slot) (i : ℕ) : Type 0 where
 pub found : (f : Slot → Bool) (ks : List Slot) (i : ℕ) → first f ks ≡ Some i → Found f ks i
 found f [] i e = absurd (let z : _≡_ {A = ℕ} 0 1 = cc in omega arith)
 found f (x ∷ ks) i e = ⊎-elim
-  (λ (h : f x ≡ true).
-     let z : 0 ≡ i = (let c = cond-true (f x) (Some 0) (mapped suc (first f ks)) h in cc) in
-     at-first i (sym z) h)
-  (λ (h : f x ≡ false).
-     let m = mapped-some (first f ks) i (sym (cond-false (f x) (Some 0) (mapped suc (first f ks)) h) ∙ e) in
-     later i (m .0) (m .2) (found f ks (m .0) (m .1)))
-  (cases-bool (f x))
+    (λ (h : f x ≡ true).
+    let z : 0 ≡ i = (let c = cond-true (f x) (Some 0) (mapped suc (first f ks)) h in cc) in
+    at-first i (sym z) h)
+    (λ (h : f x ≡ false).
+    let m = mapped-some (first f ks) i (sym (cond-false (f x) (Some 0) (mapped suc (first f ks)) h) ∙ e) in
+    later i (m .0) (m .2) (found f ks (m .0) (m .1)))
+    (cases-bool (f x))
   where
     at-first : (i : ℕ) → i ≡ 0 → f x ≡ true → Found f (x ∷ ks) i
     at-first i z h = record { within = omega arith; passes = ap (λ (n : ℕ). f (slot-at (x ∷ ks) n)) z ∙ h }
+
     later : (i j : ℕ) → i ≡ suc j → Found f ks j → Found f (x ∷ ks) i
     later i j e h = record { within = omega (arith, h .within); passes = ap (λ (n : ℕ). f (slot-at (x ∷ ks) n)) e ∙ h .passes }
 
@@ -58,9 +59,9 @@ found f (x ∷ ks) i e = ⊎-elim
 pub none-passes : (f : Slot → Bool) (ks : List Slot) → f (slot-at [] 0) ≡ false → first f ks ≡ None → (i : ℕ) → f (slot-at ks i) ≡ false
 none-passes f [] b e i = b
 none-passes f (x ∷ ks) b e i = ⊎-elim
-  (λ (h : f x ≡ true). absurd (let c = cond-true (f x) (Some 0) (mapped suc (first f ks)) h in let z : _≡_ {A = ℕ} 0 1 = cc in omega arith))
-  (λ (h : f x ≡ false). step i h (none-passes f ks b (mapped-none (first f ks) (sym (cond-false (f x) (Some 0) (mapped suc (first f ks)) h) ∙ e))))
-  (cases-bool (f x))
+    (λ (h : f x ≡ true). absurd (let c = cond-true (f x) (Some 0) (mapped suc (first f ks)) h in let z : _≡_ {A = ℕ} 0 1 = cc in omega arith))
+    (λ (h : f x ≡ false). step i h (none-passes f ks b (mapped-none (first f ks) (sym (cond-false (f x) (Some 0) (mapped suc (first f ks)) h) ∙ e))))
+    (cases-bool (f x))
   where
     step : (i : ℕ) → f x ≡ false → ((j : ℕ) → f (slot-at ks j) ≡ false) → f (slot-at (x ∷ ks) i) ≡ false
     step zero h g = h

@@ -68,6 +68,6 @@ same-pages s t l h = ext-getD None t s l (λ q b. h q)
 pub set-pages : (s t : Pages) (p : ℕ) (x : Option Words) → length t ≡ length s → p < length s → at t p ≡ x → ((q : ℕ) → (q ≡ p → ⊥) → at t q ≡ at s q) → t ≡ set s p x
 set-pages s t p x l b here there =
     same-pages (set s p x) t (l ∙ sym (length-set s p x)) (λ q. ⊎-elim
-      (λ (e : q ≡ p). ap (at t) e ∙ here ∙ sym (ap (at (set s p x)) e ∙ getD-set-same s p x None b))
-      (λ (ne : q ≡ p → ⊥). there q ne ∙ sym (getD-set-other s p q x None ne))
-      (cases-eq q p))
+    (λ (e : q ≡ p). ap (at t) e ∙ here ∙ sym (ap (at (set s p x)) e ∙ getD-set-same s p x None b))
+    (λ (ne : q ≡ p → ⊥). there q ne ∙ sym (getD-set-other s p q x None ne))
+    (cases-eq q p))

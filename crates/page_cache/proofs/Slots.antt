@@ -38,20 +38,20 @@ one-keeps ks i j p apart h g = apart i j (keeps-clash (slot-at ks i) (slot-at ks
 
 pub no-other-keeps : (ks : List Slot) (i p : ℕ) → Apart ks → keeps p (slot-at ks i) ≡ true → (j : ℕ) → (j ≡ i → ⊥) → keeps p (slot-at ks j) ≡ false
 no-other-keeps ks i p apart h j ne = ⊎-elim
-  (λ (g : keeps p (slot-at ks j) ≡ true). absurd (ne (one-keeps ks j i p apart g h)))
-  (λ (g : keeps p (slot-at ks j) ≡ false). g)
-  (cases-bool (keeps p (slot-at ks j)))
+    (λ (g : keeps p (slot-at ks j) ≡ true). absurd (ne (one-keeps ks j i p apart g h)))
+    (λ (g : keeps p (slot-at ks j) ≡ false). g)
+    (cases-bool (keeps p (slot-at ks j)))
 
 -- Which slot keeps p, if any does.
 pub which : (ks : List Slot) (p : ℕ) → ((i : ℕ) × (keeps p (slot-at ks i) ≡ true)) ⊎ ((i : ℕ) → keeps p (slot-at ks i) ≡ false)
 which [] p = inr (λ i. refl)
 which (k ∷ ks) p = ⊎-elim
-  (λ (h : keeps p k ≡ true). inl (0, h))
-  (λ (h : keeps p k ≡ false). ⊎-elim
+    (λ (h : keeps p k ≡ true). inl (0, h))
+    (λ (h : keeps p k ≡ false). ⊎-elim
     (λ (g : (i : ℕ) × (keeps p (slot-at ks i) ≡ true)). inl (suc (g .0), g .1))
     (λ (g : (i : ℕ) → keeps p (slot-at ks i) ≡ false). inr (miss-more h g))
     (which ks p))
-  (cases-bool (keeps p k))
+    (cases-bool (keeps p k))
   where
     miss-more : keeps p k ≡ false → ((i : ℕ) → keeps p (slot-at ks i) ≡ false) → (i : ℕ) → keeps p (slot-at (k ∷ ks) i) ≡ false
     miss-more h g zero = h
@@ -76,21 +76,21 @@ kept-other (l ∷ ks) (suc i) q k h g = ap (λ (x : Option Words). cond (keeps q
 -- A property of each slot, after a change of slot i.
 pub each-set : (P : ℕ → Slot → Type 0) (ks : List Slot) (i : ℕ) (k : Slot) → i < length ks → P i k → ((j : ℕ) → (j ≡ i → ⊥) → P j (slot-at ks j)) → (j : ℕ) → P j (slot-at (set ks i k) j)
 each-set P ks i k l here there j = ⊎-elim
-  (λ (e : j ≡ i). subst (λ (n : ℕ). P n (slot-at (set ks i k) n)) (sym e) (subst (P i) (sym (getD-set-same ks i k blank l)) here))
-  (λ (ne : j ≡ i → ⊥). subst (P j) (sym (getD-set-other ks i j k blank ne)) (there j ne))
-  (cases-eq j i)
+    (λ (e : j ≡ i). subst (λ (n : ℕ). P n (slot-at (set ks i k) n)) (sym e) (subst (P i) (sym (getD-set-same ks i k blank l)) here))
+    (λ (ne : j ≡ i → ⊥). subst (P j) (sym (getD-set-other ks i j k blank ne)) (there j ne))
+    (cases-eq j i)
 
 -- A slot filled with a page that no other slot keeps.
 pub apart-put : (ks : List Slot) (i : ℕ) (k : Slot) → Apart ks → i < length ks → ((j : ℕ) → (j ≡ i → ⊥) → keeps (k .page) (slot-at ks j) ≡ false) → Apart (set ks i k)
 apart-put ks i k apart l none x y =
     each-set (λ m s. clash s (slot-at (set ks i k) y) ≡ true → m ≡ y) ks i k l
-      (each-set (λ n s. clash k s ≡ true → i ≡ n) ks i k l (λ _. refl)
-        (λ j ne h. absurd (both-ways _ (none j ne) (and-parts (in-use (k .state)) (keeps (k .page) (slot-at ks j)) h .1))) y)
-      (λ a na. each-set (λ n s. clash (slot-at ks a) s ≡ true → a ≡ n) ks i k l
-        (λ h. let g = and-parts (in-use (slot-at ks a .state)) (keeps (slot-at ks a .page) k) h in
-           absurd (both-ways _ (none a na) (and-from (in-use (slot-at ks a .state)) _ (g .0) (eq-eqb _ _ (sym (keeps-page k (slot-at ks a .page) (g .1)))))))
-        (λ b nb. apart a b) y)
-      x
+    (each-set (λ n s. clash k s ≡ true → i ≡ n) ks i k l (λ _. refl)
+    (λ j ne h. absurd (both-ways _ (none j ne) (and-parts (in-use (k .state)) (keeps (k .page) (slot-at ks j)) h .1))) y)
+    (λ a na. each-set (λ n s. clash (slot-at ks a) s ≡ true → a ≡ n) ks i k l
+    (λ h. let g = and-parts (in-use (slot-at ks a .state)) (keeps (slot-at ks a .page) k) h in
+    absurd (both-ways _ (none a na) (and-from (in-use (slot-at ks a .state)) _ (g .0) (eq-eqb _ _ (sym (keeps-page k (slot-at ks a .page) (g .1)))))))
+    (λ b nb. apart a b) y)
+    x
 
 pub whole-put : (ks : List Slot) (i : ℕ) (k : Slot) → Whole ks → i < length ks → length (k .words) ≡ 64 → Whole (set ks i k)
 whole-put ks i k whole l e = each-set (λ j s. j < 4 → length (s .words) ≡ 64) ks i k l (λ _. e) (λ j ne. whole j)
@@ -104,7 +104,7 @@ changed-in-use Changed h = refl
 pub clean-keeps : (ks : List Slot) (i : ℕ) → i < length ks → in-use (slot-at ks i .state) ≡ true → (j p : ℕ) → keeps p (slot-at (set ks i (marked (slot-at ks i) Clean)) j) ≡ keeps p (slot-at ks j)
 clean-keeps ks i l used j p =
     each-set (λ n s. keeps p s ≡ keeps p (slot-at ks n)) ks i (marked (slot-at ks i) Clean) l
-      (ap (λ (b : Bool). b && eqb (slot-at ks i .page) p) (sym used)) (λ n ne. refl) j
+    (ap (λ (b : Bool). b && eqb (slot-at ks i .page) p) (sym used)) (λ n ne. refl) j
 
 -- A slot other than the one in which two lists of slots may differ.
 pub same-slot : (ks ls : List Slot) (i j : ℕ) → ((k : Slot) → set ls i k ≡ set ks i k) → (j ≡ i → ⊥) → slot-at ls j ≡ slot-at ks j

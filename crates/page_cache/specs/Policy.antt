@@ -30,10 +30,10 @@ empty-slot t = first (λ (k : Slot). is-empty (k .state)) (t .slots)
 
 -- A page that comes in goes to the lowest empty slot; where none is empty, they are reused in turn.
 abbrev pub filled : Places → Slot → Places
-filled t k = record
-  { slots = set (t .slots) (valueOr (empty-slot t) (t .turn)) k
-  ; turn = cond (isSome (empty-slot t)) (t .turn) ((t .turn + 1) % 4)
-  }
+filled t k = record {
+  slots = set (t .slots) (valueOr (empty-slot t) (t .turn)) k;
+  turn = cond (isSome (empty-slot t)) (t .turn) ((t .turn + 1) % 4);
+}
 
 abbrev pub replaced : Places → ℕ → Slot → Places
 replaced t i k = record { slots = set (t .slots) i k; turn = t .turn }

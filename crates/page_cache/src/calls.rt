@@ -4,6 +4,7 @@ ghost use Prim.Native.Nat.{ℕ, _<_};
 ghost use lib.ListN.{set};
 ghost use Rattle.std.specs.declared.option.Option.the-variants.{Some};
 ghost use Rattle.std.specs.Results.{isOk};
+ghost use Rattle.page_store.specs.Pages.{zeros};
 ghost use Rattle.page_store.specs.Calls.{Takes, Reads, Writes, GivesBack};
 ghost use Rattle.page_cache.specs.Slots.{in-use, is-changed, keeps, slot-at};
 ghost use Rattle.page_cache.specs.Policy.{new-table, slot, filled, after-read, after-write, after-give-back};
@@ -23,7 +24,10 @@ impl<S: PageStore> Cache<S> {
         ensures pages { λ r. ⌜ cached meaning r ≡ meaning below ⌝ }
         ensures table { λ r. ⌜ places-in r ≡ new-table ⌝ }
     {
-        Cache { below, table: Table::new() }
+        Cache {
+            below,
+            table: Table::new(),
+        }
     }
 
     // Writes slot `i` below if it is changed.
@@ -82,7 +86,7 @@ pub impl<S: PageStore> PageStore for Cache<S> as CachePages {
     }
 
     fn take(&mut self) -> Result<u32, StoreRefusal>
-        ensures takes { λ r. ⌜ (Rule meaning rule (now (self .entry)) → Rule meaning rule (now (self .exit)) × Takes (cached meaning (now (self .entry))) (cached meaning (now (self .exit))) r) ⌝ }
+        ensures takes { λ r. ⌜ (Rule meaning rule (now (self .entry)) → Rule meaning rule (now (self .exit)) × Takes (cached meaning (now (self .entry))) (cached meaning (now (self .exit))) zeros r) ⌝ }
         ensures table { λ _. ⌜ places-in (now (self .exit)) ≡ places-in (now (self .entry)) ⌝ }
     {
         self.below.take()

@@ -35,7 +35,14 @@ impl Table {
     pub(crate) fn new() -> Table
         ensures { λ r. ⌜ places r ≡ new-table ⌝ }
     {
-        Table { slots: [Slot { page: 0, state: SlotState::Empty, words: [0; 64] }; 4], turn: 0 }
+        Table {
+            slots: [Slot {
+                page: 0,
+                state: SlotState::Empty,
+                words: [0; 64],
+            }; 4],
+            turn: 0,
+        }
     }
 
     // The slot that keeps `page`.
@@ -106,7 +113,11 @@ impl Table {
         requires { ⌜ i < 4 ⌝ ∗ ⌜ ((j : ℕ) → (j ≡ i → ⊥) → keeps page (slot-at (now self .slots) j) ≡ false) ⌝ }
         ensures { λ _. ⌜ places (now (self .exit)) ≡ replaced (places (now (self .entry))) i (slot page state (now (words .entry))) ⌝ }
     {
-        self.slots[i] = Slot { page, state, words: *words };
+        self.slots[i] = Slot {
+            page,
+            state,
+            words: *words,
+        };
     }
 
     // Marks slot `i` empty, or one in use clean or changed.

@@ -6,6 +6,7 @@ use Prim.Native.Nat.{ℕ, _<_, _≤_}
 use native.Mathlib.Omega.{arith}
 use lib.Dec.{ltb}
 use lib.ListN.{length, set}
+use Rattle.std.proofs.shelf.Lists.{getD-set-same, set-set, set-getD}
 use Rattle.std.proofs.shelf.Tests.{cond-true, cond-false, cases-bool, lt-ltb, le-ltb}
 use Rattle.std.proofs.shelf.Ways.{tells}
 use Rattle.std.specs.Options.{isSome, valueOr}
@@ -15,7 +16,7 @@ use Rattle.std.specs.declared.result.Result.{Result}
 use Rattle.std.specs.declared.result.Result.the-variants.{Ok, Err}
 use Rattle.page_store.specs.Pages.{Pages, Words, at}
 use Rattle.page_store.specs.Refusals.{answer}
-use Rattle.page_store.specs.Calls.{changed, Reads, Writes, GivesBack}
+use Rattle.page_store.specs.Calls.{changed, Took, Reads, Writes, GivesBack}
 use Rattle.page_store.specs.declared.refusal.StoreRefusal.{StoreRefusal}
 use Rattle.page_store.specs.declared.refusal.StoreRefusal.the-variants.{OutOfRange, NotHeld}
 use Rattle.page_store.proofs.Counting.{held-below}
@@ -107,3 +108,18 @@ give-ok {s} {t} {p} h = change-ok s t p None (h .answers) (h .pages)
 
 pub give-refused : {s t : Pages} {p : ℕ} {e : StoreRefusal} → GivesBack s t p (Err e) → Refused s t p
 give-refused {s} {t} {p} {e} h = change-refused s t p None e (h .answers) (h .pages)
+
+pub took-words : {s t : Pages} {w : Words} {p : ℕ} → Took s t w p → at t p ≡ Some w
+took-words {s} {t} {w} {p} h = ap (λ (x : Pages). at x p) (h .pages) ∙ getD-set-same s p (Some w) None (h .within)
+
+-- A page taken and then written was taken with those words; taken and then given back, it was not taken at all.
+pub took-written : {s t u : Pages} {v w : Words} {p : ℕ} → Took s t v p → ChangeOk t u p (Some w) → Took s u w p
+took-written {s} {t} {u} {v} {w} {p} h k = record {
+  within = h .within;
+  was-free = h .was-free;
+  pages = k .pages ∙ ap (λ (x : Pages). set x p (Some w)) (h .pages) ∙ set-set s p (Some v) (Some w);
+}
+
+pub took-given : {s t u : Pages} {w : Words} {p : ℕ} → Took s t w p → ChangeOk t u p None → u ≡ s
+took-given {s} {t} {u} {w} {p} h k =
+    k .pages ∙ ap (λ (x : Pages). set x p None) (h .pages) ∙ set-set s p (Some w) None ∙ ap (set s p) (sym (h .was-free)) ∙ set-getD s p None

@@ -8,7 +8,7 @@ use Rattle.std.specs.declared.option.Option.{Option}
 use Rattle.std.specs.declared.option.Option.the-variants.{Some, None}
 use Rattle.std.specs.declared.result.Result.{Result}
 use Rattle.std.specs.declared.result.Result.the-variants.{Ok, Err}
-use Rattle.page_store.specs.Pages.{Pages, Words, at, free-pages, zeros}
+use Rattle.page_store.specs.Pages.{Pages, Words, at, free-pages}
 use Rattle.page_store.specs.Refusals.{answer}
 use Rattle.page_store.specs.declared.refusal.StoreRefusal.{StoreRefusal}
 use Rattle.page_store.specs.declared.refusal.StoreRefusal.the-variants.{NoFreePage}
@@ -17,16 +17,16 @@ use Rattle.page_store.specs.declared.refusal.StoreRefusal.the-variants.{NoFree
 unfoldable pub changed : Pages → ℕ → Option Words → Pages
 changed s p x = cond (isSome (at s p)) (set s p x) s
 
--- Page p was free, and is held with zeros. Which free page that is, the store chooses.
-pub record Took (s t : Pages) (p : ℕ) : Type 0 where
+-- Page p was free, and is held with the words w. Which free page that is, the store chooses.
+pub record Took (s t : Pages) (w : Words) (p : ℕ) : Type 0 where
   pub within : p < length s
   pub was-free : at s p ≡ None
-  pub pages : t ≡ set s p (Some zeros)
+  pub pages : t ≡ set s p (Some w)
 
 -- A take is refused only where no page is free, and then changes nothing.
-abbrev pub Takes : Pages → Pages → Result ℕ StoreRefusal → Type 0
-Takes s t (Ok p) = Took s t p
-Takes s t (Err e) = (e ≡ NoFreePage) × (free-pages s ≡ 0) × (t ≡ s)
+abbrev pub Takes : Pages → Pages → Words → Result ℕ StoreRefusal → Type 0
+Takes s t w (Ok p) = Took s t w p
+Takes s t w (Err e) = (e ≡ NoFreePage) × (free-pages s ≡ 0) × (t ≡ s)
 
 -- w is the caller's buffer before the call, v after it: the page's words, or as it was.
 pub record Reads (s t : Pages) (p : ℕ) (w v : Words) (r : Result Unit StoreRefusal) : Type 0 where

@@ -1,5 +1,6 @@
 ghost use mathlib.Core.Path.{_≡_};
 ghost use Rattle.page_store.specs.Refusals.{number-of};
+use std::fmt;
 
 /// Why a page store says no.
 #[derive(Clone, Copy, PartialEq, Eq, Debug)]
@@ -18,5 +19,17 @@ impl StoreRefusal {
         ensures { λ r. ⌜ r ≡ number-of self ⌝ }
     {
         self as u32
+    }
+}
+
+pub impl fmt::Display for StoreRefusal as StoreRefusalDisplay {
+    fn fmt<W: fmt::Write>(&self, f: &mut fmt::Formatter<W>) -> fmt::Result {
+        let number = self.number();
+        let reason = match self {
+            StoreRefusal::OutOfRange => "the page number is not below the size",
+            StoreRefusal::NotHeld => "the page is free",
+            StoreRefusal::NoFreePage => "no page is free",
+        };
+        write!(f, "refused {number}: {reason}")
     }
 }

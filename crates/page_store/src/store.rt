@@ -2,7 +2,7 @@ ghost use mathlib.Core.Path.{_≡_};
 ghost use Prim.Native.Nat.{ℕ, _≤_};
 ghost use lib.ListN.{length};
 ghost use Rattle.std.specs.declared.option.Option.the-variants.{Some};
-ghost use Rattle.page_store.specs.Pages.{Pages, Words, at, free-pages};
+ghost use Rattle.page_store.specs.Pages.{Pages, Words, at, free-pages, zeros};
 ghost use Rattle.page_store.specs.Calls.{Takes, Reads, Writes, GivesBack};
 use crate::refusal::StoreRefusal;
 
@@ -29,7 +29,7 @@ pub trait PageStore {
 
     /// Makes a free page held, all its words zero.
     fn take(&mut self) -> Result<u32, StoreRefusal>
-        ensures { λ r. ⌜ (rule (now (self .entry)) → rule (now (self .exit)) × Takes (meaning (now (self .entry))) (meaning (now (self .exit))) r) ⌝ };
+        ensures { λ r. ⌜ (rule (now (self .entry)) → rule (now (self .exit)) × Takes (meaning (now (self .entry))) (meaning (now (self .exit))) zeros r) ⌝ };
 
     /// Fills `words` from a held page. A store may keep what it read, so `self` is lent to it whole.
     fn read(&mut self, page: u32, words: &mut [u32; 64]) -> Result<(), StoreRefusal>

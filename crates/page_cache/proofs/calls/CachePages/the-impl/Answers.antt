@@ -10,4 +10,4 @@ few-law g s h = omega (arith, length-over (g .S·PageStore .meaning (s .below)) 
 pub whole-law : need.whole-law
 whole-law g s p w h e =
     view-whole (g .S·PageStore .meaning (s .below)) (s .table .slots) p w (s .table .apart) (s .table .four) (s .table .whole) (h .1)
-      (λ v f. g .S·PageStore·met .whole (s .below) p v (h .0) f) e
+    (λ v f. g .S·PageStore·met .whole (s .below) p v (h .0) f) e

@@ -10,9 +10,9 @@ use Rattle.page_cache.proofs.table.Table.choose.Needs as need
 pub returns-in-Some : need.returns-in-Some
 returns-in-Some c =
     let e = c .in-Some .ensures tt in
-    record
-    { slot = ap (λ o. valueOr o (c .args .self .now .turn)) e
-    ; within = omega (arith, found (λ k. is-empty (k .state)) (c .args .self .now .slots) (c .in-Some .i) (sym e) .within, c .args .self .now .four)
-    ; slots = refl
-    ; turn = ap (λ o. cond (isSome o) (c .args .self .now .turn) ((c .args .self .now .turn + 1) % 4)) e
+    record {
+      slot = ap (λ o. valueOr o (c .args .self .now .turn)) e;
+      within = omega (arith, found (λ k. is-empty (k .state)) (c .args .self .now .slots) (c .in-Some .i) (sym e) .within, c .args .self .now .four);
+      slots = refl;
+      turn = ap (λ o. cond (isSome o) (c .args .self .now .turn) ((c .args .self .now .turn + 1) % 4)) e;
     }

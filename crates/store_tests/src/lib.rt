@@ -1,0 +1,5 @@
+//! Examples of page stores, run.
+#[cfg(test)]
+mod array;
+#[cfg(test)]
+mod cache;
