@@ -44,7 +44,7 @@ impl ArrayStore {
     pub fn words(&self) -> &[u32]
         ensures { λ r. ⌜ now r ≡ words-in (now (self .entry)) ⌝ }
     {
-        &self.words
+        self.words.as_slice()
     }
 
     /// Hands the words back as they lie.
@@ -100,7 +100,7 @@ impl ArrayStore {
     }
 }
 
-// Each call says, beyond what the interface asks, that it leaves the words past the last page alone.
+// Beyond what the interface asks, each call says that the words past the last page stay as they are, and `read` that all do.
 pub impl PageStore for ArrayStore as ArrayPages {
     ghost meaning = { pages-in };
 
@@ -129,7 +129,7 @@ pub impl PageStore for ArrayStore as ArrayPages {
 
     fn read(&mut self, page: u32, words: &mut [u32; 64]) -> Result<(), StoreRefusal>
         ensures reads { λ r. ⌜ Reads (pages-in (now (self .entry))) (pages-in (now (self .exit))) page (now (words .entry)) (now (words .exit)) r ⌝ }
-        ensures past { λ _. ⌜ words-past (now (self .exit)) ≡ words-past (now (self .entry)) ⌝ }
+        ensures words { λ _. ⌜ words-in (now (self .exit)) ≡ words-in (now (self .entry)) ⌝ }
     {
         self.check(page)?;
         fetch(&self.words, page as usize, words);

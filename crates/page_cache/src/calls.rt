@@ -55,9 +55,9 @@ impl<S: PageStore> Cache<S> {
         ensures rule { λ _. ⌜ (Rule meaning rule (now (self .entry)) → Fair (cached meaning (now (self .entry))) page (slot page state (now (words .entry)))
             → Rule meaning rule (now (self .exit)) × (cached meaning (now (self .exit)) ≡ set (cached meaning (now (self .entry))) page (Some (now (words .entry))))) ⌝ }
     {
-        let i = self.table.choose();
-        self.flush(i);
-        self.table.put(i, page, state, words);
+        let slot = self.table.choose();
+        self.flush(slot);
+        self.table.put(slot, page, state, words);
     }
 
     /// Writes what is changed below, and hands back the store below.

@@ -9,7 +9,7 @@ returns-in-Break-check c = record {
   reads =
       read-refused (pages-in (c .args .self .now)) (c .args .page) (c .from-residual .result) (c .in-Break-check .field-0 .0)
       (c .in-Break-check .ensures tt) (c .from-residual .ensures .1) (c .args .words .now);
-  past = refl;
+  words = refl;
 }
 
 pub fetch-requires : need.fetch-requires
@@ -18,5 +18,5 @@ fetch-requires c κs = allowed-held (c .args .self .now) (c .args .page) (c .der
 pub returns : need.returns
 returns c = record {
   reads = read-ok (c .args .self .now) (c .in-Continue-check .ensures tt) (c .args .words .now) (c .deref .ensures .value) (c .fetch .ensures);
-  past = refl;
+  words = refl;
 }
