@@ -19,7 +19,7 @@ use Rattle.page_store.specs.Pages.{Words}
 use Rattle.array_store.specs.Layout.{page-at, pages-of, listed-page, Edits}
 use Rattle.array_store.proofs.Laid.{length-pages, at-pages, page-same, page-held}
 
-other-word : {us vs : List ℕ} {p : ℕ} {x : Option Words} → Edits us vs p x
+pub other-word : {us vs : List ℕ} {p : ℕ} {x : Option Words} → Edits us vs p x
     → (q i : ℕ) → (q ≡ p → ⊥) → 65 * q ≤ i → i < 65 * q + 65 → getD vs i 0 ≡ getD us i 0
 other-word {us} {vs} {p} e q i ne lo hi = ⊎-elim
     (λ (f : q ≡ p). absurd (ne f))
@@ -96,6 +96,7 @@ fill-edits ws p k w room held e long =
       here =
           page-held (putMid (65 * p + 1) k ws w) p (λ z. held (sym (before (65 * p) (omega arith)) ∙ z))
           ∙ ap Some (mid-inside (65 * p + 1) k ws w (omega arith) long);
+      mark = λ m. let b = before (65 * p) (omega arith) in omega arith;
     }
 
 pub hold-edits : (ws : List ℕ) (p k : ℕ) (w : Words) → 65 * p + 65 ≤ length ws → k ≡ 64 → length w ≡ 64
@@ -109,4 +110,5 @@ hold-edits ws p k w room e long =
       before = λ i b. f .before i b ∙ getD-set-other ws (65 * p) i 1 0 (λ z. omega arith);
       after = λ i b. f .after i b ∙ getD-set-other ws (65 * p) i 1 0 (λ z. omega arith);
       here = f .here;
+      mark = λ m. f .mark (omega arith);
     }

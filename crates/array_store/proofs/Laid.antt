@@ -86,7 +86,7 @@ pub cleared-more : (ws : List ℕ) (n : ℕ) → set (cleared ws n) (65 * n) 0 �
 unfolding cleared
 cleared-more ws n = refl
 
-cleared-mark : (ws : List ℕ) (n p : ℕ) → 65 * n ≤ length ws → p < n → getD (cleared ws n) (65 * p) 0 ≡ 0
+pub cleared-mark : (ws : List ℕ) (n p : ℕ) → 65 * n ≤ length ws → p < n → getD (cleared ws n) (65 * p) 0 ≡ 0
 unfolding cleared
 cleared-mark ws zero p room h = absurd (omega arith)
 cleared-mark ws (suc n) p room h =

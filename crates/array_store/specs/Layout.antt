@@ -39,3 +39,4 @@ pub record Edits (us vs : List ℕ) (p : ℕ) (x : Option Words) : Type 0 where
   pub before : (i : ℕ) → i < 65 * p → getD vs i 0 ≡ getD us i 0
   pub after : (i : ℕ) → 65 * p + 65 ≤ i → getD vs i 0 ≡ getD us i 0
   pub here : page-at vs p ≡ x
+  pub mark : getD us (65 * p) 0 ≤ 1 → getD vs (65 * p) 0 ≤ 1

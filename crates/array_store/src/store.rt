@@ -1,6 +1,7 @@
 ghost use mathlib.Core.Path.{_≡_};
 ghost use mathlib.Core.Bool.{false};
 ghost use Prim.Native.Nat.{ℕ, _+_, _-_, _*_, _≤_, _<_};
+ghost use lib.ListN.{getD};
 ghost use Rattle.std.specs.Options.{isSome};
 ghost use Rattle.std.specs.Of.Vec.{vec-len, vec-items};
 ghost use Rattle.page_store.specs.Pages.{free-pages};
@@ -24,5 +25,6 @@ pub struct ArrayStore {
     ghost counted: { listed + (size - fresh) ≡ free-pages (pages-of (vec-items words) size) },
     ghost unused: { (p : ℕ) → fresh ≤ p → p < size → isSome (page-at (vec-items words) p) ≡ false },
     ghost spare: { (i : ℕ) → i < listed → Spare (vec-items words) fresh (listed-page (vec-items words) head i) },
+    ghost marks: { (p : ℕ) → p < size → getD (vec-items words) (65 * p) 0 ≤ 1 },
     ghost apart: { (i j : ℕ) → i < j → j < listed → listed-page (vec-items words) head i ≡ listed-page (vec-items words) head j → ⊥ },
 }
