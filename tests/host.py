@@ -81,6 +81,14 @@ for page in range(pages.size):
         print(f"page {page}: {shown(pages.look(page))}")
     except Refused as no:
         print(f"page {page}: {no}")
+for low, high in ((240, 4800), (4800, 240)):
+    print(f"feeders with {low} to {high} ohm:")
+    if low > high:
+        print("  refused 21: the low end in word 0 is above its high end")
+        continue
+    for page in sorted(pages.held):
+        if max(low, pages.held[page][1]) <= min(high, pages.held[page][2]):
+            print(f"  {shown(pages.held[page])}")
 print("the same behind two caches")
 again = Pages(400 // 65)
 work(again)

@@ -1,5 +1,8 @@
 ghost use mathlib.Core.Path.{_≡_};
+ghost use Rattle.intervals.specs.Intervals.{read-interval};
 ghost use Rattle.host.specs.Feeders.{feeder-on};
+use intervals::Interval;
+use key_class::KeyRefusal;
 use std::fmt;
 
 /// A feeder of the machine: its slot, the range of resistor values on its reel in ohms, the parts left.
@@ -22,6 +25,13 @@ impl Feeder {
         words[2] = self.high;
         words[3] = self.parts;
         words
+    }
+
+    /// The values on the reel as a key.
+    pub fn range(&self) -> Result<Interval, KeyRefusal>
+        ensures { λ r. ⌜ r ≡ read-interval (now (self .entry) .low) (now (self .entry) .high) 0 0 ⌝ }
+    {
+        Interval::from_words(&[self.low, self.high, 0, 0])
     }
 
     /// The feeder whose data a page has.

@@ -4,6 +4,7 @@ mod feeder;
 
 use array_store::ArrayPages;
 use array_store::ArrayStore;
+use bank::find;
 use bank::list;
 use bank::plug_in;
 use bank::unplug;
@@ -90,6 +91,8 @@ fn one_cache(rt: &LibcRuntime, memory: Vec<u32>) -> io::Result<Vec<u32>> {
     worked?;
     println!(rt, "found in memory:")?;
     list(rt, &mut store)?;
+    find(rt, &mut store, 240, 4800)?;
+    find(rt, &mut store, 4800, 240)?;
     Ok(store.into_words())
 }
 

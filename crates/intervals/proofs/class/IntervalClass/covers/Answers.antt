@@ -1,0 +1,11 @@
+use mathlib.Core.Path.{sym, subst}
+use Rattle.std.specs.Orderings.{Decides}
+use Rattle.intervals.specs.Points.{Contains}
+use Rattle.intervals.proofs.Laws.{covers-points}
+use Rattle.intervals.proofs.class.IntervalClass.covers.Needs as need
+
+pub returns : need.returns
+returns c = record {
+  value = c .contains .ensures;
+  points = subst (λ t. Decides t (Contains (c .args .self .now) (c .args .other .now))) (sym (c .contains .ensures)) (covers-points (c .args .self .now) (c .args .other .now));
+}

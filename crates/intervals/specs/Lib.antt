@@ -1,0 +1,3 @@
+pub mod Ranks
+pub mod Intervals
+pub mod Points

@@ -1,0 +1,4 @@
+pub mod Coding
+pub mod Sharing
+pub mod Seeding
+pub mod Turns

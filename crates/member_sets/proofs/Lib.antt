@@ -1,0 +1,4 @@
+pub mod Below
+pub mod SingleBits
+pub mod Covering
+pub mod Reading

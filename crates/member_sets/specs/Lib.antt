@@ -1,0 +1,4 @@
+pub mod Members
+pub mod BitLaws
+pub mod Joining
+pub mod Sets
