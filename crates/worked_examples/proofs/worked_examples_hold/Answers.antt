@@ -9,6 +9,7 @@ use Rattle.member_sets.specs.Members.{bit, word, member, all-below, some-below,
 use Rattle.member_sets.specs.declared.key.SetKey.{SetKey}
 use Rattle.member_sets.proofs.Below.{some-tells}
 use Rattle.member_sets.proofs.Covering.{contains-tells}
+use Rattle.node.specs.Nodes.{node-words}
 use Rattle.worked_examples.specs.Examples.{no-members}
 use Rattle.worked_examples.proofs.worked_examples_hold.Needs as need
 
@@ -33,7 +34,7 @@ none-within a = ⊎-elim
     (cases-bool (contains no-members (a .members)))
 
 pub returns : need.returns
-unfolding member all-below some-below count-below
+unfolding member all-below some-below count-below node-words
 returns c = record {
   interval-meets-at-its-end = refl;
   interval-does-not-meet-past-its-end = refl;
@@ -45,4 +46,17 @@ returns c = record {
   no-set-lies-within-the-empty-one = none-within;
   of-thirteen-equal-sets-even-places-stay = λ p. refl;
   of-twelve-and-another-nine-stay = λ p q. refl;
+  twelve-points-lie-on-one-page = refl;
+  the-thirteenth-needs-two-pages = refl;
+  then-0-to-5-stay-and-6-to-12-go = refl;
+  without-0-1-and-2-one-leaf-is-left = refl;
+  seventy-eight-points-have-two-levels = refl;
+  the-next-needs-three-pages = refl;
+  then-there-are-three-levels-on-sixteen-pages = (refl, refl);
+  a-search-in-three-levels-finds-in-order = refl;
+  without-0-1-and-2-one-page-fewer = refl;
+  a-wide-key-may-grow-less = refl;
+  on-a-tie-the-lowest-place = refl;
+  the-partner-is-chosen-by-the-key-formed-anew = refl;
+  a-record-of-another-number-is-not-found = refl;
 }

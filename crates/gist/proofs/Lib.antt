@@ -1,0 +1,11 @@
+pub mod Lists
+pub mod Perms
+pub mod Bags
+pub mod Differing
+pub mod Paged
+pub mod Nodes
+pub mod Least
+pub mod Searching
+pub mod Fixing
+pub mod Inserting
+pub mod Removing

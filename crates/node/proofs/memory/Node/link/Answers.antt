@@ -1,0 +1,16 @@
+use native.Mathlib.Omega.{arith}
+use mathlib.Core.Path.{sym, ap}
+use Rattle.std.specs.Options.{mapped}
+use Rattle.std.proofs.shelf.Maps.{nth-past}
+use Rattle.node.proofs.Places.{count-is, link-at}
+use Rattle.node.proofs.memory.Node.link.Needs as need
+
+pub returns-then-i-self : need.returns-then-i-self
+returns-then-i-self g c = λ level es is.
+    let n = count-is (g .K·Key .growing) level es (c .args .self .now .words) is in
+    sym (ap (mapped (λ e. e .link)) (nth-past es (c .args .i) (omega arith)))
+
+pub returns : need.returns
+returns g c = λ level es is.
+    let n = count-is (g .K·Key .growing) level es (c .args .self .now .words) is in
+    link-at (g .K·Key·met .coded) level es (c .args .self .now .words) is (c .args .i) (omega arith)

@@ -1,0 +1,3 @@
+pub mod Nodes
+pub mod Reading
+pub mod InMemory
