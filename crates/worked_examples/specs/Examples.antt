@@ -12,7 +12,7 @@ use Rattle.gist.specs.Search.{found}
 use Rattle.gist.specs.Tree.{levels, pages, written}
 use Rattle.intervals.specs.Intervals.{meets, interval-growing, interval-class}
 use Rattle.intervals.specs.declared.interval.Interval.{Interval}
-use Rattle.intervals.specs.declared.interval.IntervalQuery.the-variants.{Meets}
+use Rattle.intervals.specs.declared.interval.IntervalQuery.the-variants.{Meets, Inside}
 use Rattle.member_sets.specs.Joining.{members-of}
 use Rattle.member_sets.specs.Members.{has-member}
 use Rattle.member_sets.specs.Sets.{growth, matches, set-class}
@@ -78,10 +78,13 @@ pub record WorkedExamples : Type 0 where
       ≡ (2, page 2 ((0, 5, 0) ∷ (6, 12, 1) ∷ [])) ∷ (0, leaf (from 0 6)) ∷ (1, leaf (from 6 7)) ∷ []
   pub without-0-1-and-2-one-leaf-is-left : mapped (written interval-growing) (less (less (less (Some (points 13)) 0) 1) 2)
       ≡ Some ((1, leaf (from 6 7 ++ from 3 3)) ∷ [])
+  pub without-0-the-key-above-is-formed-anew : mapped (written interval-growing) (less (Some (points 13)) 0)
+      ≡ Some ((2, page 2 ((1, 5, 0) ∷ (6, 12, 1) ∷ [])) ∷ (0, leaf (from 1 5)) ∷ (1, leaf (from 6 7)) ∷ [])
   pub seventy-eight-points-have-two-levels : levels (points 78) ≡ 2
   pub the-next-needs-three-pages : takes 78 (points 78) ≡ 3
   pub then-there-are-three-levels-on-sixteen-pages : (levels (points 79) ≡ 3) × (length (pages (points 79)) ≡ 16)
   pub a-search-in-three-levels-finds-in-order : map (λ r. r .link) (found interval-class (Meets from-30-to-40) (points 79)) ≡ from 31 11
+  pub a-search-goes-into-pages-that-do-not-match : map (λ r. r .link) (found interval-class (Inside from-30-to-40) (points 79)) ≡ from 31 11
   pub without-0-1-and-2-one-page-fewer : mapped (λ w. length (pages w)) (less (less (less (Some (points 79)) 0) 1) 2) ≡ Some 15
   pub a-wide-key-may-grow-less : least-growth interval-growing (point 15) (entry-to (leaf-on 7 (0 ∷ 10 ∷ [])) ∷ entry-to (leaf-on 8 (21 ∷ [])) ∷ []) ≡ 0
   pub on-a-tie-the-lowest-place : least-growth interval-growing (point 15) (entry-to (leaf-on 7 (20 ∷ [])) ∷ entry-to (leaf-on 8 (10 ∷ [])) ∷ []) ≡ 0
