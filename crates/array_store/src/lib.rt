@@ -1,4 +1,6 @@
 //! A page store in plain memory.
+#![tactic(auto)]
+
 mod calls;
 mod layout;
 mod store;

@@ -1,6 +1,8 @@
 //! 20,000 rectangles inserted into an index on an array store, and 20,000 searches for those that meet a rectangle.
 //!
 //! It prints what was found, which the gate compares; with the argument `time` also what an insert and a search took.
+#![tactic(auto)]
+
 mod drawn;
 mod work;
 

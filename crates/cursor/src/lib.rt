@@ -1,4 +1,6 @@
 //! A cursor over the records of a tree on pages that match a query: it stops at each, and goes on when it is asked to.
+#![tactic(auto)]
+
 mod cursor;
 mod found;
 mod looking;

@@ -1,4 +1,6 @@
 //! Keeps the feeders of a pick-and-place machine in an index by the values on their reels, and says which have a value.
+#![tactic(auto)]
+
 mod answer;
 mod bank;
 mod feeder;

@@ -1,4 +1,6 @@
 //! Any list of calls on one index, and the law of whole histories.
+#![tactic(auto)]
+
 mod call;
 mod running;
 mod session;

@@ -1,4 +1,6 @@
 //! Keeps the feeders of a pick-and-place machine on pages, and prints what it did.
+#![tactic(auto)]
+
 mod bank;
 mod feeder;
 

@@ -2,6 +2,8 @@
 //!
 //! An [`Index`] owns its store. A search moves it into a [`Search`], and ending the search moves it back, so that nothing
 //! is inserted while a search is open, and nothing is asked of a search that has ended: neither compiles.
+#![tactic(auto)]
+
 mod calls;
 mod index;
 mod search;

@@ -1,4 +1,6 @@
 //! The class of intervals: the value ranges of feeders.
+#![tactic(auto)]
+
 mod class;
 mod interval;
 mod ranks;

@@ -8,6 +8,8 @@
 //!     CLASS split K K ..      which stay (s) and which go (g)
 //!     CLASS QUESTION A Q      whether A matches, and may hold, the question: meets, inside or point, and for sets
 //!                             all, shares or within
+#![tactic(auto)]
+
 mod ask;
 mod keys;
 mod read;

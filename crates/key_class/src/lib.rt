@@ -1,4 +1,6 @@
 //! Key classes: what can be indexed, and the laws that it must keep.
+#![tactic(auto)]
+
 mod class;
 mod groups;
 mod joined;

@@ -1,4 +1,6 @@
 //! The class of sets: nozzles that a head can carry.
+#![tactic(auto)]
+
 mod class;
 mod key;
 mod members;

@@ -1,4 +1,6 @@
 //! Nodes on pages: 64 words as a node and back, and work on a node's entries.
+#![tactic(auto)]
+
 mod edit;
 mod header;
 mod memory;

@@ -1,4 +1,6 @@
 //! A write-back cache over any page store, itself a page store.
+#![tactic(auto)]
+
 mod cache;
 mod calls;
 mod places;

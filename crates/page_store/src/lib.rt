@@ -1,4 +1,6 @@
 //! Page stores: numbered pages of 64 words, each free or held.
+#![tactic(auto)]
+
 mod compound;
 mod refusal;
 mod store;

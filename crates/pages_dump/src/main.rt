@@ -2,6 +2,8 @@
 //!
 //! Each line of the input names a key class (interval, rectangle, set) and the 64 words of a page. What the page is comes
 //! out in a readable form, or the reason why it is no node.
+#![tactic(auto)]
+
 mod dump;
 mod read;
 mod shown;

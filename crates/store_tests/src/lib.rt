@@ -1,4 +1,6 @@
 //! Examples of page stores, run.
+#![tactic(auto)]
+
 #[cfg(test)]
 mod array;
 #[cfg(test)]

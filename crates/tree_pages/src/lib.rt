@@ -1,4 +1,6 @@
 //! Trees on the pages of a store: how a tree lies there, and its nodes read and written.
+#![tactic(auto)]
+
 mod levels;
 mod nodes;
 mod root;

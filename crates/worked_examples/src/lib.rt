@@ -1,4 +1,6 @@
 //! Worked examples, as one theorem about the definitions.
+#![tactic(auto)]
+
 ghost use Rattle.worked_examples.specs.Examples.{WorkedExamples};
 
 /// The worked examples hold.
