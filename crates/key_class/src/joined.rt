@@ -6,7 +6,7 @@ use crate::class::Key;
 
 /// The union of squeezed keys, joined from the first to the last; none of no keys, and of words of no key.
 pub fn union_of<K: Key>(words: &[[u32; 4]]) -> Option<K>
-    ensures { (ks : List K) → Squeezed growing ks words.now → result ≡ joined growing ks }
+    ensures { (ks : List K) → Squeezed K.growing ks words.now → result ≡ joined K.growing ks }
 {
     if words.len() == 0 {
         return None;

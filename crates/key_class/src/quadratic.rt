@@ -8,7 +8,7 @@ use crate::groups::{Groups, Seeds};
 
 // Whether the words at each place are a key's.
 fn all_keys<K: Key>(words: &[[u32; 4]]) -> bool
-    ensures { Decides result (AllKeys growing words.now) }
+    ensures { Decides result (AllKeys K.growing words.now) }
 {
     for i in 0..words.len() {
         if K::unsqueeze(&words[i]).is_none() {
@@ -21,8 +21,8 @@ fn all_keys<K: Key>(words: &[[u32; 4]]) -> bool
 // The key at `i`.
 fn key_at<K: Key>(words: &[[u32; 4]], i: usize) -> K
     requires within { i < length words.now }
-    requires keys { AllKeys growing words.now }
-    ensures { result ≡ slice_index_or (keys_of growing words.now) i result }
+    requires keys { AllKeys K.growing words.now }
+    ensures { result ≡ slice_index_or (keys_of K.growing words.now) i result }
 {
     match K::unsqueeze(&words[i]) {
         Some(key) => key,
@@ -32,7 +32,7 @@ fn key_at<K: Key>(words: &[[u32; 4]], i: usize) -> K
 
 // The larger growth of two keys, of the one for the other.
 fn larger_growth<K: Key>(a: &K, b: &K) -> u64
-    ensures { result ≡ larger_growth growing a.now b.now }
+    ensures { result ≡ larger_growth K.growing a.now b.now }
 {
     a.growth(b).max(b.growth(a))
 }
@@ -40,8 +40,8 @@ fn larger_growth<K: Key>(a: &K, b: &K) -> u64
 // The worst pair of the key at `i` and a later one, where it is worse than `worst`.
 fn worst_after<K: Key>(words: &[[u32; 4]], a: &K, i: usize, worst: Seeds) -> Seeds
     requires within { i < length words.now }
-    requires keys { AllKeys growing words.now }
-    ensures { result ≡ worst_after growing a.now i (i + 1) (drop (i + 1) (keys_of growing words.now)) worst }
+    requires keys { AllKeys K.growing words.now }
+    ensures { result ≡ worst_after K.growing a.now i (i + 1) (drop (i + 1) (keys_of K.growing words.now)) worst }
 {
     let mut worst = worst;
     for j in i + 1..words.len() {
@@ -60,8 +60,8 @@ fn worst_after<K: Key>(words: &[[u32; 4]], a: &K, i: usize, worst: Seeds) -> See
 
 // The first pair that is worst together.
 fn worst_pair<K: Key>(words: &[[u32; 4]]) -> Seeds
-    requires { AllKeys growing words.now }
-    ensures { result ≡ seeds_of growing (keys_of growing words.now) }
+    requires { AllKeys K.growing words.now }
+    ensures { result ≡ seeds_of K.growing (keys_of K.growing words.now) }
 {
     let mut worst = Seeds {
         first: 0,
@@ -96,7 +96,7 @@ fn goes_next(stays: usize, goes: usize, left: usize, grows_stay: u64, grows_go: 
 // Whether the key at `p` goes.
 fn mark_at<K: Key>(seeds: &Seeds, p: usize, groups: &Groups<K>, key: &K) -> bool
     requires { groups.now.stays + groups.now.goes + groups.now.left ≤ 64 }
-    ensures { result ≡ mark growing seeds.now.first seeds.now.second p groups.now key.now }
+    ensures { result ≡ mark K.growing seeds.now.first seeds.now.second p groups.now key.now }
 {
     if p == seeds.first {
         false
@@ -112,7 +112,7 @@ fn mark_at<K: Key>(seeds: &Seeds, p: usize, groups: &Groups<K>, key: &K) -> bool
 // The groups with one key more.
 fn placed<K: Key>(groups: Groups<K>, key: &K, goes: bool) -> Groups<K>
     requires { groups.stays + groups.goes + groups.left ≤ 64 }
-    ensures { result ≡ placed growing groups key.now goes }
+    ensures { result ≡ placed K.growing groups key.now goes }
 {
     let left = groups.left.saturating_sub(1);
     if goes {
@@ -136,9 +136,9 @@ fn placed<K: Key>(groups: Groups<K>, key: &K, goes: bool) -> Groups<K>
 
 // Which of two to fifteen keys go.
 fn marks<K: Key>(words: &[[u32; 4]]) -> [bool; 15]
-    requires keys { AllKeys growing words.now }
+    requires keys { AllKeys K.growing words.now }
     requires many { (2 ≤ length words.now) × (length words.now ≤ 15) }
-    ensures { take (length words.now) result ≡ quadratic growing (keys_of growing words.now) }
+    ensures { take (length words.now) result ≡ quadratic K.growing (keys_of K.growing words.now) }
 {
     let seeds = worst_pair::<K>(words);
     let n = words.len();
@@ -164,9 +164,9 @@ fn marks<K: Key>(words: &[[u32; 4]]) -> [bool; 15]
 /// Which of 13 to 15 squeezed keys go, by the quadratic split; its seeds are the first worst pair, and four or more
 /// keys stay and go.
 pub fn quadratic_split<K: Key>(words: &[[u32; 4]]) -> [bool; 15]
-    ensures picks { Picks growing (quadratic growing) words.now result }
-    ensures seeds { (d : K) (ks : List K) → Squeezed growing ks words.now → 2 ≤ length ks → FirstWorst (larger_at growing d ks) (length ks) (seeds_of growing ks) }
-    ensures shares { (ks : List K) → Squeezed growing ks words.now → 13 ≤ length ks → length ks ≤ 15 → Shares (length ks) (quadratic growing ks) }
+    ensures picks { Picks K.growing (quadratic K.growing) words.now result }
+    ensures seeds { (d : K) (ks : List K) → Squeezed K.growing ks words.now → 2 ≤ length ks → FirstWorst (larger_at K.growing d ks) (length ks) (seeds_of K.growing ks) }
+    ensures shares { (ks : List K) → Squeezed K.growing ks words.now → 13 ≤ length ks → length ks ≤ 15 → Shares (length ks) (quadratic K.growing ks) }
 {
     let n = words.len();
     if n < 13 || n > 15 || !all_keys::<K>(words) {

@@ -14,4 +14,4 @@ loop-found-preserved g c = λ ru.
 pub returns : goal.returns
 returns g c = λ ru.
     let i = c.loop-found.invariant ru in
-    no_more _ _ _ _ _ _ _ i.1 (c.in-default.ensures.nexts i.0)
+    no_more _ _ _ _ _ _ _ i.1 (c.in_default.ensures.nexts i.0)

@@ -1,4 +1,4 @@
 use Rattle.insertion.proofs.under.+insert_under.Given as goal
 
-abbrev pub decreases-insert-under : goal.decreases-insert-under
-decreases-insert-under g l = l.level
+abbrev pub decreases-insert_under : goal.decreases-insert_under
+decreases-insert_under g l = l.level

@@ -14,16 +14,16 @@ onto-more : {K : Type 0} (G : Growing K) (a k b : K) (ks : List K) (i : ℕ) →
 onto-more G a k b ks i l e f =
     ap (λ x. joined_onto G x (drop (i + 1) ks)) (f ∙ ap (G.union a) e) ∙ sym (at_drop_more (joined_onto G a) ks i k l)
 
-pub returns-in-err-key : goal.returns-in-err-key
-returns-in-err-key g c = λ ks e.
-    absurd (none_some (sym c.in-err-key.was ∙ c.unsqueeze-in-loop-i.ensures
+pub returns-in_err-key : goal.returns-in_err-key
+returns-in_err-key g c = λ ks e.
+    absurd (none_some (sym c.in_err-key.was ∙ c.unsqueeze-in-loop-i.ensures
     ∙ squeezed_at g.met.K.Key.coded ks c.args.words.now e c.loop-i.i c.loop-i.union (omega arith)))
 
 pub loop-i-preserved : goal.loop-i-preserved
 loop-i-preserved g c = λ ks e.
     let n = (read g.met.K.Key.coded ks c.args.words.now e).many in
-    let k = c.in-ok-key.key in
-    let at = same_key _ k (get_or ks c.loop-i.i k) (sym c.unsqueeze-in-loop-i.ensures ∙ c.in-ok-key.was)
+    let k = c.in_ok-key.key in
+    let at = same_key _ k (get_or ks c.loop-i.i k) (sym c.unsqueeze-in-loop-i.ensures ∙ c.in_ok-key.was)
     (squeezed_at g.met.K.Key.coded ks c.args.words.now e c.loop-i.i k (omega arith)) in
     ap Some (onto-more g.K.Key.growing c.loop-i.union k c.union-union.result ks c.loop-i.i (omega arith) at c.union-union.ensures)
     ∙ c.loop-i.invariant ks e

@@ -5,7 +5,7 @@ use Rattle.key_class.proofs.Coding.{read}
 use Rattle.key_class.proofs.Seeding.{seeds_first_worst}
 use Rattle.key_class.proofs.Sharing.{quadratic_shares}
 use Rattle.key_class.proofs.quadratic.quadratic_split.Goals as goal
-use Rattle.key_class.proofs.quadratic.quadratic_split.Goals.{then-n-lt13-via-then-n-lt13, then-n-lt13-via-else-n-lt13+then-n-gt15, then-n-lt13-via-else-n-lt13+else-n-gt15+then-not-all-keys}
+use Rattle.key_class.proofs.quadratic.quadratic_split.Goals.{then-n-lt13-via-then-n-lt13, then-n-lt13-via-else-n-lt13+then-n-gt15, then-n-lt13-via-else-n-lt13+else-n-gt15+then-not-all_keys}
 
 pub returns-then-n-lt13 : goal.returns-then-n-lt13
 returns-then-n-lt13 g c = record {
@@ -14,7 +14,7 @@ returns-then-n-lt13 g c = record {
       elim c.then-n-lt13.branch [
         | then-n-lt13-via-then-n-lt13 w ↦ absurd (omega (arith, r.many, w.if-n-lt13.true))
         | then-n-lt13-via-else-n-lt13+then-n-gt15 w ↦ absurd (omega (arith, r.many, w.if-n-gt15.true))
-        | then-n-lt13-via-else-n-lt13+else-n-gt15+then-not-all-keys w ↦ absurd (both_ways _ w.if-not-all-keys.true (w.all-keys.ensures.1 r.all))
+        | then-n-lt13-via-else-n-lt13+else-n-gt15+then-not-all_keys w ↦ absurd (both_ways _ w.if-not-all_keys.true (w.all_keys.ensures.1 r.all))
       ];
   seeds = λ d ks e two. seeds_first_worst g.K.Key.growing d ks two;
   shares = λ ks e. quadratic_shares g.K.Key.growing ks;

@@ -12,9 +12,9 @@ loop-j-preserved g c =
     let G = g.K.Key.growing in
     let ks = keys_of G c.args.words.now in
     let n = length_keys g.met.K.Key.coded c.args.words.now c.requires.keys in
-    let e = c.larger-growth-growth.ensures in
+    let e = c.larger_growth-growth.ensures in
     let s = c.loop-j.worst in
-    after_more G c.args.a.now c.args.i c.loop-j.j ks c.key-at-b.result s c.if-growth-worst.worst (omega arith) c.key-at-b.ensures
+    after_more G c.args.a.now c.args.i c.loop-j.j ks c.key_at-b.result s c.if-growth-worst.worst (omega arith) c.key_at-b.ensures
     (elim c.if-growth-worst.branch [
       | then-growth-worst w ↦ worse_takes s _ _ _ _ _ w.worst-is w.if-growth-worst.true e
       | else-growth-worst w ↦ worse_keeps s _ _ _ _ _ w.worst-is w.if-growth-worst.false e

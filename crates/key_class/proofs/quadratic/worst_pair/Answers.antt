@@ -11,7 +11,7 @@ loop-i-preserved g c =
     let G = g.K.Key.growing in
     let ks = keys_of G c.args.words.now in
     let n = length_keys g.met.K.Key.coded c.args.words.now c.requires in
-    from_more G c.loop-i.i ks c.key-at-a.result c.loop-i.worst _ (omega arith) c.key-at-a.ensures c.worst-after-worst.ensures ∙ c.loop-i.invariant
+    from_more G c.loop-i.i ks c.key_at-a.result c.loop-i.worst _ (omega arith) c.key_at-a.ensures c.worst_after-worst.ensures ∙ c.loop-i.invariant
 
 pub returns : goal.returns
 returns g c =

@@ -2,10 +2,10 @@ use Rattle.std.proofs.Common.{◌++◌, arith, length-append}
 use Rattle.removal.proofs.Sharing.{saved_none, appended, merged, not_merged}
 use Rattle.removal.proofs.mend.merge.Goals as goal
 
-pub returns-in-err-key : goal.returns-in-err-key
-returns-in-err-key g c = λ ru.
+pub returns-in_err-key : goal.returns-in_err-key
+returns-in_err-key g c = λ ru.
     let G = g.K.Key.growing in
-    let v = c.in-err-key.ensures ru in (
+    let v = c.in_err-key.ensures ru in (
       v.0,
       record {
         says = λ level ys xs sy sx some few hq hp.
@@ -17,7 +17,7 @@ returns-in-err-key g c = λ ru.
 pub returns-in-Ok : goal.returns-in-Ok
 returns-in-Ok g c = λ ru.
     let G = g.K.Key.growing in
-    let v = c.in-ok-key.ensures ru in
+    let v = c.in_ok-key.ensures ru in
     let w = c.in-Ok.ensures v.0 in (
       w.0,
       record {
@@ -30,7 +30,7 @@ returns-in-Ok g c = λ ru.
 pub returns-in-Err : goal.returns-in-Err
 returns-in-Err g c = λ ru.
     let G = g.K.Key.growing in
-    let v = c.in-ok-key.ensures ru in
+    let v = c.in_ok-key.ensures ru in
     let w = c.in-Err.ensures v.0 in (
       w.0,
       record {

@@ -1,8 +1,8 @@
 use Rattle.removal.proofs.Stepping.{Looking}
 use Rattle.removal.proofs.under.+remove_under.Given as goal
 
-abbrev pub decreases-remove-under : goal.decreases-remove-under
-decreases-remove-under g l = l.level
+abbrev pub decreases-remove_under : goal.decreases-remove_under
+decreases-remove_under g l = l.level
 
 -- Nothing is found so far.
 abbrev pub invariant-loop-i : goal.invariant-loop-i

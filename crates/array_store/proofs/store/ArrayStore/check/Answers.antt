@@ -10,15 +10,15 @@ returns-then-page-self c =
     let n = length_pages (words_in s) s.size in
     sym (answer_outside (pages_in s) c.args.page (omega arith))
 
-pub returns-then-not-is-held : goal.returns-then-not-is-held
-returns-then-not-is-held c =
+pub returns-then-not-is_held : goal.returns-then-not-is_held
+returns-then-not-is_held c =
     let s = c.args.self.now in
     let n = length_pages (words_in s) s.size in
     let e = at_pages_seen c.deref.ensures.value s.size c.args.page (omega arith) in
-    sym (answer_free (pages_in s) c.args.page (omega arith) (ap is_some e ∙ sym c.if-not-is-held.ensures))
+    sym (answer_free (pages_in s) c.args.page (omega arith) (ap is_some e ∙ sym c.if-not-is_held.ensures))
 
-pub returns-else-not-is-held : goal.returns-else-not-is-held
-returns-else-not-is-held c =
+pub returns-else-not-is_held : goal.returns-else-not-is_held
+returns-else-not-is_held c =
     let s = c.args.self.now in
     let e = at_pages_seen c.deref.ensures.value s.size c.args.page (omega arith) in
-    sym (answer_held (pages_in s) c.args.page (ap is_some e ∙ sym c.if-not-is-held.ensures))
+    sym (answer_held (pages_in s) c.args.page (ap is_some e ∙ sym c.if-not-is_held.ensures))

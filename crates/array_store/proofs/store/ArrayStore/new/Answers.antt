@@ -4,15 +4,15 @@ use Rattle.array_store.specs.Laid.{length_pages, cleared_pages, refilled_cleared
 use Rattle.array_store.proofs.Kept.{Owed, owed_made}
 use Rattle.array_store.proofs.store.ArrayStore.new.Goals as goal
 
-pub invariant-of-result : goal.invariant-of-result
-invariant-of-result c =
-    let e = refilled_cleared c.args.words c.min-size.result c.deref-mut.ensures.len c.deref-mut.ensures.value c.clear-marks.ensures in
+pub invariant_of-result : goal.invariant_of-result
+invariant_of-result c =
+    let e = refilled_cleared c.args.words c.min-size.result c.deref_mut.ensures.len c.deref_mut.ensures.value c.clear_marks.ensures in
     subst (λ (ws : List ℕ). Owed (vec_len c.args.words) ws c.min-size.result 0 0 0) (sym e)
     (owed_made (vec_len c.args.words) (vec_items c.args.words) c.min-size.result (omega arith) (omega arith) (omega arith))
 
 pub returns : goal.returns
 returns c =
-    let e = refilled_cleared c.args.words c.min-size.result c.deref-mut.ensures.len c.deref-mut.ensures.value c.clear-marks.ensures in
+    let e = refilled_cleared c.args.words c.min-size.result c.deref_mut.ensures.len c.deref_mut.ensures.value c.clear_marks.ensures in
     let n = length_pages _ c.min-size.result in
     record {
       size = n ∙ simp c.len.ensures at c.min-size.ensures;

@@ -3,14 +3,14 @@ use Rattle.cursor.specs.Ways.{steps_left, steps_ahead}
 use Rattle.cursor.proofs.Turns.{held, not_unread, on_same_page, on_other_page, at_match}
 use Rattle.cursor.proofs.cursor.Cursor.next.Goals as goal
 
-pub returns-in-default-node : goal.returns-in-default-node
-returns-in-default-node g c =
+pub returns-in_default-node : goal.returns-in_default-node
+returns-in_default-node g c =
     let S = g.S.PageStore in
     let r = held g.K.KeyClass.class c.args.query.now S.rule S.meaning _ _ _ _ _ _ _ _ c.in-Some.ensures.1.1 c.hold.ensures.way c.loop-place.invariant.1 c.hold.ensures.node in
     record {
       kept = λ ru. let h = r ru in (h.0, h.1);
       falls = ap (steps_left c.stop.new.self.height) c.stop.ensures;
-      nexts = λ ru. not_unread _ _ _ (r ru).2 c.in-default-node.is;
+      nexts = λ ru. not_unread _ _ _ (r ru).2 c.in_default-node.is;
     }
 
 pub returns-in-Match : goal.returns-in-Match

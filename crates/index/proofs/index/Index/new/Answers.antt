@@ -12,6 +12,6 @@ returns g c = record {
     numbered = tt;
     counted = refl;
     given = omega arith;
-    spare = c.free-count.ensures ru;
+    spare = c.free_count.ensures ru;
   };
 }

@@ -4,14 +4,14 @@ use Rattle.key_class.specs.Class.{Coded}
 use Rattle.index.proofs.Recording.{removes, refuses}
 use Rattle.index.proofs.index.Index.remove.Goals as goal
 
-pub returns-in-err-root : goal.returns-in-err-root
-returns-in-err-root g c = λ ru.
-    let p = err_from_is_err_and c.from-residual.result c.from-residual.ensures.1 in
-    let v = c.in-err-root.ensures ru in
+pub returns-in_err-root : goal.returns-in_err-root
+returns-in_err-root g c = λ ru.
+    let p = err_from_is_err_and c.from_residual.result c.from_residual.ensures.1 in
+    let v = c.in_err-root.ensures ru in
     rw (p.1, p.2)
     (v.0, refuses g.K.KeyClass.class (subst Coded (sym g.met.K.KeyClass.tied) g.met.K.Key.coded) g.met.K.KeyClass.lawful _ _ c.args.self.now.shape _ _ _ v.1)
 
 pub returns : goal.returns
 returns g c = λ ru.
-    let v = c.in-ok-root.ensures ru in
-    (v.0, removes g.K.KeyClass.class (subst Coded (sym g.met.K.KeyClass.tied) g.met.K.Key.coded) g.met.K.KeyClass.lawful _ _ c.args.self.now.shape _ _ c.in-ok-root.root c.saturating-sub.result c.saturating-sub.ensures v.1)
+    let v = c.in_ok-root.ensures ru in
+    (v.0, removes g.K.KeyClass.class (subst Coded (sym g.met.K.KeyClass.tied) g.met.K.Key.coded) g.met.K.KeyClass.lawful _ _ c.args.self.now.shape _ _ c.in_ok-root.root c.saturating_sub.result c.saturating_sub.ensures v.1)

@@ -6,5 +6,5 @@ use Rattle.intervals.proofs.class.IntervalKey.unsqueeze.Goals as goal
 
 pub returns : goal.returns
 returns c =
-    c.ok.ensures.value ∙ ap result_ok c.from-words.ensures
+    c.ok.ensures.value ∙ ap result_ok c.from_words.ensures
     ∙ sym (four_is (λ a b e d. result_ok (read_interval a b e d)) c.args.words.now c.told-words)

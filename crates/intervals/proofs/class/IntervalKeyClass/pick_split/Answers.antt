@@ -10,5 +10,5 @@ returns-then-words-gt15 c = λ ks e lo hi. let n = (read interval_coded ks c.arg
 
 pub returns : goal.returns
 returns c = λ ks e lo hi.
-    ap (λ (n : ℕ). take n c.split-by-rank.result) (read interval_coded ks c.args.words.now e).many
-    ∙ c.split-by-rank.ensures ∙ ap by_rank (lows_squeezed ks c.args.words.now e)
+    ap (λ (n : ℕ). take n c.split_by_rank.result) (read interval_coded ks c.args.words.now e).many
+    ∙ c.split_by_rank.ensures ∙ ap by_rank (lows_squeezed ks c.args.words.now e)

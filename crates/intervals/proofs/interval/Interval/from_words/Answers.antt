@@ -7,5 +7,5 @@ use Rattle.intervals.proofs.interval.Interval.from_words.Goals as goal
 pub returns : goal.returns
 returns c =
     let ws = c.args.words.now in
-    unused_passed (get_or ws 2 0) (get_or ws 3 0) _ c.in-ok-check-unused.ensures
+    unused_passed (get_or ws 2 0) (get_or ws 3 0) _ c.in_ok-check_unused.ensures
     ∙ sym (in_order _ (dec_le (get_or ws 0 0) (get_or ws 1 0)) (get_or ws 2 0) (get_or ws 3 0))

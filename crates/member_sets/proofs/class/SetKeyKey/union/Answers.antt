@@ -5,8 +5,8 @@ use Rattle.member_sets.specs.Covering.{either_least}
 use Rattle.member_sets.specs.Reading.{same_key}
 use Rattle.member_sets.proofs.class.SetKeyKey.union.Goals as goal
 
-pub invariant-of-result : goal.invariant-of-result
-invariant-of-result c = (ap has_member c.either.ensures ∙ either_some c.args.self.now.members c.args.other.now.members c.args.self.now.some, tt)
+pub invariant_of-result : goal.invariant_of-result
+invariant_of-result c = (ap has_member c.either.ensures ∙ either_some c.args.self.now.members c.args.other.now.members c.args.self.now.some, tt)
 
 pub returns : goal.returns
 returns c = record {

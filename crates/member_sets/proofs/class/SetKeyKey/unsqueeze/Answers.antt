@@ -6,5 +6,5 @@ use Rattle.member_sets.proofs.class.SetKeyKey.unsqueeze.Goals as goal
 
 pub returns : goal.returns
 returns c =
-    c.ok.ensures.value ∙ ap result_ok c.from-words.ensures
+    c.ok.ensures.value ∙ ap result_ok c.from_words.ensures
     ∙ sym (four_is (λ a b c d. result_ok (read_key a b c d)) c.args.words.now c.told-words)

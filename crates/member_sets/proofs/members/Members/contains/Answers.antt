@@ -2,8 +2,8 @@ use Rattle.std.proofs.Common.{not, ◌||◌, rules}
 use Rattle.member_sets.specs.Below.{all_joins, by_words}
 use Rattle.member_sets.proofs.members.Members.contains.Goals as goal
 
-pub returns-then-bits-in-3 : goal.returns-then-bits-in-3
-returns-then-bits-in-3 c = let e = by_words all_joins (λ x y. not y || x) c.args.self.now c.args.other.now in search rules
+pub returns-then-bits_in-3 : goal.returns-then-bits_in-3
+returns-then-bits_in-3 c = let e = by_words all_joins (λ x y. not y || x) c.args.self.now c.args.other.now in search rules
 
-pub returns-else-bits-in-3 : goal.returns-else-bits-in-3
-returns-else-bits-in-3 c = let e = by_words all_joins (λ x y. not y || x) c.args.self.now c.args.other.now in search rules
+pub returns-else-bits_in-3 : goal.returns-else-bits_in-3
+returns-else-bits_in-3 c = let e = by_words all_joins (λ x y. not y || x) c.args.self.now c.args.other.now in search rules

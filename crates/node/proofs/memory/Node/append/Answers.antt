@@ -23,7 +23,7 @@ loop-i-preserved g c = λ level deep es fs is stands.
     let f = entry_at g.met.K.Key.coded deep fs w stands i l h in
     pushed_more g.met.K.Key.coded level es fs i c.loop-i.self.words (c.loop-i.invariant level deep es fs is stands) l (omega arith)
     h (four_at w (4 + 5 * i)) f.keyed (get_or w (4 + 5 * i + 4) 0) f.linked
-    c.push-words.new.self.words c.push-words.result c.push-words.ensures.full c.push-words.ensures.words
+    c.push_words.new.self.words c.push_words.result c.push_words.ensures.full c.push_words.ensures.words
 
 pub returns : goal.returns
 returns g c = λ level deep es fs is stands.

@@ -5,8 +5,8 @@ use Rattle.node.specs.Reading.{count_in}
 use Rattle.node.proofs.Edits.{count_with}
 use Rattle.node.proofs.memory.Node.push_words.Goals as goal
 
-pub invariant-of-self : goal.invariant-of-self
-invariant-of-self c =
+pub invariant_of-self : goal.invariant_of-self
+invariant_of-self c =
     let w = c.args.self.now.words in
     let u = c.put.new.self.words in
     let n = count_with w u c.args.key.now (count_in w) c.args.link c.put.ensures c.args.self.now.long c.if-count-ge12.false in

@@ -23,8 +23,8 @@ returns-in-Some g c = record {
 
 pub returns : goal.returns
 returns g c = record {
-  refusal = c.in-default.ensures;
+  refusal = c.in_default.ensures;
   words = refl;
-  node = node_from_fits g.met.K.Key.coded c.args.words.now c.told-words (fits_from_none g.K.Key.growing c.args.words.now (sym c.in-default.ensures));
+  node = node_from_fits g.met.K.Key.coded c.args.words.now c.told-words (fits_from_none g.K.Key.growing c.args.words.now (sym c.in_default.ensures));
   written = λ level es h e. (refl, read_back g.met.K.Key.coded c.args.words.now level es e);
 }

@@ -15,5 +15,5 @@ returns g c = λ level es is.
     let n = count_is g.K.Key.growing level es c.args.self.now.words is in (
       sym (lt-ltb _ _ (omega arith)),
       removed g.met.K.Key.coded level es c.args.self.now.words is c.args.self.now.long c.args.i (omega arith) (omega (arith, c.args.self.now.few))
-          c.copy-within.new.self c.copy-within.ensures.after c.put.new.self.words c.put.ensures,
+          c.copy_within.new.self c.copy_within.ensures.after c.put.new.self.words c.put.ensures,
     )

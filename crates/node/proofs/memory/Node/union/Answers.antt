@@ -30,20 +30,20 @@ onto-more G a k b (e ∷ es) (suc i) n u =
     let s : suc i + 1 ≡ suc (i + 1) = omega arith in
     ap (λ (m : ℕ). joined_onto G b (drop m (keys (e ∷ es)))) s ∙ onto-more G a k b es i n u
 
-pub returns-in-err-union : goal.returns-in-err-union
-returns-in-err-union g c = λ level es is. c.from-residual.ensures ∙ no-first g.K.Key.growing es (c.in-err-union.ensures level es is)
+pub returns-in_err-union : goal.returns-in_err-union
+returns-in_err-union g c = λ level es is. c.from_residual.ensures ∙ no-first g.K.Key.growing es (c.in_err-union.ensures level es is)
 
 pub loop-i-init : goal.loop-i-init
-loop-i-init g c = λ level es is. first g.K.Key.growing es c.in-ok-union.union (c.in-ok-union.ensures level es is)
+loop-i-init g c = λ level es is. first g.K.Key.growing es c.in_ok-union.union (c.in_ok-union.ensures level es is)
 
-pub returns-in-err-key : goal.returns-in-err-key
-returns-in-err-key g c = λ level es is.
+pub returns-in_err-key : goal.returns-in_err-key
+returns-in_err-key g c = λ level es is.
     let n = count_is g.K.Key.growing level es c.args.self.now.words is in
-    absurd (some_there (λ e. e.key) es c.loop-i.i (omega arith) (c.in-err-key.ensures level es is))
+    absurd (some_there (λ e. e.key) es c.loop-i.i (omega arith) (c.in_err-key.ensures level es is))
 
 pub loop-i-preserved : goal.loop-i-preserved
 loop-i-preserved g c = λ level es is.
-    ap Some (onto-more g.K.Key.growing c.loop-i.union c.in-ok-key.key c.union-union.result es c.loop-i.i (c.in-ok-key.ensures level es is) c.union-union.ensures)
+    ap Some (onto-more g.K.Key.growing c.loop-i.union c.in_ok-key.key c.union-union.result es c.loop-i.i (c.in_ok-key.ensures level es is) c.union-union.ensures)
     ∙ c.loop-i.invariant level es is
 
 pub returns : goal.returns

@@ -15,20 +15,20 @@ loop-i-preserved g c = λ es is low high.
     let p = c.args.self.now in
     let i = c.loop-i.i in
     let ms = g.K.KeyClass.class.split (keys es) in
-    let goes = c.pick-split-goes.result in
+    let goes = c.pick_split-goes.result in
     let l : i < length es = omega (arith, is.many) in
     let h = here es i l in
-    let m = marked g.K.KeyClass.class g.K.Key.growing g.met.K.KeyClass.tied g.met.K.KeyClass.lawful p es is low high goes c.pick-split-goes.ensures in
+    let m = marked g.K.KeyClass.class g.K.Key.growing g.met.K.KeyClass.tied g.met.K.KeyClass.lawful p es is low high goes c.pick_split-goes.ensures in
     let d = c.loop-i.invariant es is low high in
     elim c.if-goes-i.branch [
       | then-goes-i w ↦
           dealt_gone g.met.K.Key.coded c.args.level i ms es goes m c.loop-i.stay.words c.loop-i.go.words c.if-goes-i.stay.words c.if-goes-i.go.words d l h
           w.if-goes-i.true (ap words_in w.stay-is)
-          (pushes g.K.Key.growing p es is i l h c.loop-i.go.words c.if-goes-i.go.words w.push-words.result w.push-words.ensures.full (ap words_in w.go-is ∙ w.push-words.ensures.words))
+          (pushes g.K.Key.growing p es is i l h c.loop-i.go.words c.if-goes-i.go.words w.push_words.result w.push_words.ensures.full (ap words_in w.go-is ∙ w.push_words.ensures.words))
       | else-goes-i w ↦
           dealt_stayed g.met.K.Key.coded c.args.level i ms es goes m c.loop-i.stay.words c.loop-i.go.words c.if-goes-i.stay.words c.if-goes-i.go.words d l h
           w.if-goes-i.false (ap words_in w.go-is)
-          (pushes g.K.Key.growing p es is i l h c.loop-i.stay.words c.if-goes-i.stay.words w.push-words-else-goes-i.result w.push-words-else-goes-i.ensures.full (ap words_in w.stay-is ∙ w.push-words-else-goes-i.ensures.words))
+          (pushes g.K.Key.growing p es is i l h c.loop-i.stay.words c.if-goes-i.stay.words w.push_words-else-goes-i.result w.push_words-else-goes-i.ensures.full (ap words_in w.stay-is ∙ w.push_words-else-goes-i.ensures.words))
     ]
 
 pub returns : goal.returns

@@ -18,7 +18,7 @@ returns-in-Ok g c =
     let ks : List Slot = c.args.self.now.table.slots in
     let i : ℕ = c.args.i in
     let l : i < length ks = omega (arith, c.requires, c.args.self.now.table.four) in
-    let used : in_use (slot_at ks i).state ≡ true = changed_in_use (slot_at ks i).state (sym c.if-is-changed.ensures) in
+    let used : in_use (slot_at ks i).state ≡ true = changed_in_use (slot_at ks i).state (sym c.if-is_changed.ensures) in
     let e : c.mark.new.self.slots ≡ set ks i (marked (slot_at ks i) Clean) = ap (λ t. t.slots) c.mark.ensures in
     record {
       keeps = λ j p. ap (λ (x : List Slot). keeps p (slot_at x j)) e ∙ clean_keeps ks i l used j p;
@@ -38,8 +38,8 @@ returns-in-Ok g c =
           );
     }
 
-pub returns-in-default : goal.returns-in-default
-returns-in-default g c =
+pub returns-in_default : goal.returns-in_default
+returns-in_default g c =
     let ks : List Slot = c.args.self.now.table.slots in
     let i : ℕ = c.args.i in
     record {
@@ -47,8 +47,8 @@ returns-in-default g c =
       others = λ k. refl;
       turn = refl;
       rule = λ r.
-          let used : in_use (slot_at ks i).state ≡ true = changed_in_use (slot_at ks i).state (sym c.if-is-changed.ensures) in
+          let used : in_use (slot_at ks i).state ≡ true = changed_in_use (slot_at ks i).state (sym c.if-is_changed.ensures) in
           let own : keeps c.page-page.result (slot_at ks i) ≡ true = ap (λ (p : ℕ). keeps p (slot_at ks i)) c.page-page.ensures ∙ keeps_own (slot_at ks i) used in
-          let w = c.in-default.ensures r.0 in
+          let w = c.in_default.ensures r.0 in
           absurd (both_ways _ (write_refused w.1).free (r.1 i c.page-page.result own).held);
     }

@@ -13,16 +13,16 @@ use Rattle.page_cache.proofs.Firsts.{found, none_passes}
 use Rattle.page_cache.specs.Steps.{view, view_answer, tied_same, gave_kept, gave_unkept, ok_over, changed_over, refused_over}
 use Rattle.page_cache.proofs.calls.CachePageStore.give_back.Goals as goal
 
-pub returns-in-err-give-back : goal.returns-in-err-give-back
-returns-in-err-give-back g c =
-    let p = err_from_is_err_and c.from-residual.result c.from-residual.ensures.1 in
-    let e : c.from-residual.result ≡ Err c.in-err-give-back.field-0.0 = p.1 ∙ ap Err p.2 in
+pub returns-in_err-give_back : goal.returns-in_err-give_back
+returns-in_err-give_back g c =
+    let p = err_from_is_err_and c.from_residual.result c.from_residual.ensures.1 in
+    let e : c.from_residual.result ≡ Err c.in_err-give_back.field-0.0 = p.1 ∙ ap Err p.2 in
     let s : Pages = g.S.PageStore.meaning c.args.self.now.below in
-    let t : Pages = g.S.PageStore.meaning c.give-back.new.self in
+    let t : Pages = g.S.PageStore.meaning c.give_back.new.self in
     let ks : List Slot = c.args.self.now.table.slots in
     record {
       gives = λ h.
-          let r = c.in-err-give-back.ensures h.0 in
+          let r = c.in_err-give_back.ensures h.0 in
           let no = give_refused r.1 in (
             (r.0, tied_same s t ks no.pages h.1),
             record { answers = e ∙ r.1.answers ∙ sym (view_answer s ks c.args.page); pages = refused_over s t ks c.args.page None no },
@@ -39,7 +39,7 @@ mark-requires g c = (
 pub returns-in-Some : goal.returns-in-Some
 returns-in-Some g c =
     let s : Pages = g.S.PageStore.meaning c.args.self.now.below in
-    let t : Pages = g.S.PageStore.meaning c.give-back.new.self in
+    let t : Pages = g.S.PageStore.meaning c.give_back.new.self in
     let ks : List Slot = c.args.self.now.table.slots in
     let p : ℕ = c.args.page in
     let i : ℕ = c.in-Some.i in
@@ -47,7 +47,7 @@ returns-in-Some g c =
     let e : c.mark.new.self.slots ≡ set ks i (marked (slot_at ks i) Empty) = ap (λ t. t.slots) c.mark.ensures in
     record {
       gives = λ h.
-          let r = c.in-ok-give-back.ensures h.0 in
+          let r = c.in_ok-give_back.ensures h.0 in
           let back = give_ok r.1 in
           let f = gave_kept s t ks p i back.held back.pages c.args.self.now.table.apart hit.within h.1 hit.passes in (
             (r.0, subst (Tied t) (sym e) f.0),
@@ -56,19 +56,19 @@ returns-in-Some g c =
       table = c.mark.ensures ∙ ap (λ o. by_slot o (λ j. replaced (places_in c.args.self.now) j (marked (slot_at ks j) Empty)) (places_in c.args.self.now)) c.in-Some.ensures;
     }
 
-pub returns-in-default : goal.returns-in-default
-returns-in-default g c =
+pub returns-in_default : goal.returns-in_default
+returns-in_default g c =
     let s : Pages = g.S.PageStore.meaning c.args.self.now.below in
-    let t : Pages = g.S.PageStore.meaning c.give-back.new.self in
+    let t : Pages = g.S.PageStore.meaning c.give_back.new.self in
     let ks : List Slot = c.args.self.now.table.slots in
     let p : ℕ = c.args.page in
     record {
       gives = λ h.
-          let r = c.in-ok-give-back.ensures h.0 in
+          let r = c.in_ok-give_back.ensures h.0 in
           let back = give_ok r.1 in
-          let f = gave_unkept s t ks p back.held back.pages h.1 (none_passes (keeps p) ks refl (sym c.in-default.ensures)) in (
+          let f = gave_unkept s t ks p back.held back.pages h.1 (none_passes (keeps p) ks refl (sym c.in_default.ensures)) in (
             (r.0, f.0),
             record { answers = ok_over s ks p back.held; pages = changed_over s _ ks p None back.held f.1 },
           );
-      table = ap (λ o. by_slot o (λ j. replaced (places_in c.args.self.now) j (marked (slot_at ks j) Empty)) (places_in c.args.self.now)) c.in-default.ensures;
+      table = ap (λ o. by_slot o (λ j. replaced (places_in c.args.self.now) j (marked (slot_at ks j) Empty)) (places_in c.args.self.now)) c.in_default.ensures;
     }

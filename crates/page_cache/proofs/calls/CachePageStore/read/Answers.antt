@@ -27,26 +27,26 @@ returns-in-Some g c =
       table = ap (λ o. by_slot o (λ i. places_in c.args.self.now) (filled (places_in c.args.self.now) (slot c.args.page Clean c.words.result.now))) c.in-Some.ensures;
     }
 
-pub returns-in-err-read : goal.returns-in-err-read
-returns-in-err-read g c =
-    let p = err_from_is_err_and c.from-residual.result c.from-residual.ensures.1 in
-    let e : c.from-residual.result ≡ Err c.in-err-read.field-0.0 = p.1 ∙ ap Err p.2 in
+pub returns-in_err-read : goal.returns-in_err-read
+returns-in_err-read g c =
+    let p = err_from_is_err_and c.from_residual.result c.from_residual.ensures.1 in
+    let e : c.from_residual.result ≡ Err c.in_err-read.field-0.0 = p.1 ∙ ap Err p.2 in
     let s : Pages = g.S.PageStore.meaning c.args.self.now.below in
     let t : Pages = g.S.PageStore.meaning c.read.new.self in
     let ks : List Slot = c.args.self.now.table.slots in
-    let miss = none_passes (keeps c.args.page) ks refl (sym c.in-default.ensures) in
+    let miss = none_passes (keeps c.args.page) ks refl (sym c.in_default.ensures) in
     record {
       reads = λ h.
-          let r = c.in-err-read.ensures h.0 in (
+          let r = c.in_err-read.ensures h.0 in (
             (r.0, tied_same s t ks r.1.pages h.1),
             subst (Reads (view s ks) (view t ks) c.args.page c.args.words.now c.read.new.words) (sym e)
-                (reads_over s t ks c.args.page c.args.words.now c.read.new.words (Err c.in-err-read.field-0.0) miss r.1),
+                (reads_over s t ks c.args.page c.args.words.now c.read.new.words (Err c.in_err-read.field-0.0) miss r.1),
           );
       table = sym (ap (λ r. cond (is_ok r) (after_read (places_in c.args.self.now) c.args.page c.read.new.words) (places_in c.args.self.now)) e);
     }
 
 pub keep-requires : goal.keep-requires
-keep-requires g c = (refl, none_passes (keeps c.args.page) c.args.self.now.table.slots refl (sym c.in-default.ensures))
+keep-requires g c = (refl, none_passes (keeps c.args.page) c.args.self.now.table.slots refl (sym c.in_default.ensures))
 
 pub returns : goal.returns
 returns g c =
@@ -55,10 +55,10 @@ returns g c =
     let ks : List Slot = c.args.self.now.table.slots in
     let p : ℕ = c.args.page in
     let v : Words = c.read.new.words in
-    let miss = none_passes (keeps p) ks refl (sym c.in-default.ensures) in
+    let miss = none_passes (keeps p) ks refl (sym c.in_default.ensures) in
     record {
       reads = λ h.
-          let r = c.in-ok-read.ensures h.0 in
+          let r = c.in_ok-read.ensures h.0 in
           let o = reads_over s t ks p c.args.words.now v _ miss r.1 in
           let here : at (view t ks) p ≡ Some v = ap (λ (x : Pages). at x p) o.pages ∙ (read_ok o).words in
           let k = c.keep.ensures.rule (r.0, tied_same s t ks r.1.pages h.1) (record { held = ap is_some here; same = λ _. here }) in (
@@ -69,5 +69,5 @@ returns g c =
               buffer = o.buffer;
             },
           );
-      table = c.keep.ensures.table ∙ ap (λ o. by_slot o (λ i. places_in c.args.self.now) (filled (places_in c.args.self.now) (slot p Clean v))) c.in-default.ensures;
+      table = c.keep.ensures.table ∙ ap (λ o. by_slot o (λ i. places_in c.args.self.now) (filled (places_in c.args.self.now) (slot p Clean v))) c.in_default.ensures;
     }

@@ -44,16 +44,16 @@ returns-in-Some g c =
       table = c.put.ensures ∙ ap (λ o. by_slot o (λ j. replaced (places_in c.args.self.now) j k) (filled (places_in c.args.self.now) k)) c.in-Some.ensures;
     }
 
-pub returns-in-err-read : goal.returns-in-err-read
-returns-in-err-read g c =
-    let p = err_from_is_err_and c.from-residual.result c.from-residual.ensures.1 in
-    let e : c.from-residual.result ≡ Err c.in-err-read.field-0.0 = p.1 ∙ ap Err p.2 in
+pub returns-in_err-read : goal.returns-in_err-read
+returns-in_err-read g c =
+    let p = err_from_is_err_and c.from_residual.result c.from_residual.ensures.1 in
+    let e : c.from_residual.result ≡ Err c.in_err-read.field-0.0 = p.1 ∙ ap Err p.2 in
     let s : Pages = g.S.PageStore.meaning c.args.self.now.below in
     let t : Pages = g.S.PageStore.meaning c.read.new.self in
     let ks : List Slot = c.args.self.now.table.slots in
     record {
       writes = λ h.
-          let r = c.in-err-read.ensures h.0 in (
+          let r = c.in_err-read.ensures h.0 in (
             (r.0, tied_same s t ks r.1.pages h.1),
             record {
               answers = e ∙ r.1.answers ∙ sym (view_answer s ks c.args.page);
@@ -64,7 +64,7 @@ returns-in-err-read g c =
     }
 
 pub keep-requires : goal.keep-requires
-keep-requires g c = (refl, none_passes (keeps c.args.page) c.args.self.now.table.slots refl (sym c.in-default.ensures))
+keep-requires g c = (refl, none_passes (keeps c.args.page) c.args.self.now.table.slots refl (sym c.in_default.ensures))
 
 pub returns : goal.returns
 returns g c =
@@ -75,7 +75,7 @@ returns g c =
     let k : Slot = slot p Changed c.args.words.now in
     record {
       writes = λ h.
-          let r = c.in-ok-read.ensures h.0 in
+          let r = c.in_ok-read.ensures h.0 in
           let held : Held s p = ap is_some (read_ok r.1).words in
           let same : view t ks ≡ view s ks = ap (λ (x : Pages). view x ks) r.1.pages in
           let f = c.keep.ensures.rule (r.0, tied_same s t ks r.1.pages h.1)
@@ -86,5 +86,5 @@ returns g c =
               pages = changed_over s _ ks p (Some c.args.words.now) held (f.1 ∙ ap (λ (x : Pages). set x p (Some c.args.words.now)) same);
             },
           );
-      table = c.keep.ensures.table ∙ ap (λ o. by_slot o (λ j. replaced (places_in c.args.self.now) j k) (filled (places_in c.args.self.now) k)) c.in-default.ensures;
+      table = c.keep.ensures.table ∙ ap (λ o. by_slot o (λ j. replaced (places_in c.args.self.now) j k) (filled (places_in c.args.self.now) k)) c.in_default.ensures;
     }

@@ -3,8 +3,8 @@ use Rattle.std.proofs.lemmas.List.{length-set}
 use Rattle.page_cache.specs.SlotsLemmas.{apart_put, whole_put}
 use Rattle.page_cache.proofs.table.Table.put.Goals as goal
 
-pub invariant-of-self : goal.invariant-of-self
-invariant-of-self c = (
+pub invariant_of-self : goal.invariant_of-self
+invariant_of-self c = (
   length-set c.args.self.now.slots c.args.i _ ∙ c.args.self.now.four,
   (
     apart_put c.args.self.now.slots c.args.i _ c.args.self.now.apart (omega arith) c.requires.1,

@@ -4,8 +4,8 @@ use Rattle.rectangles.specs.Corners.{min_via, max_via, le_at, fits_at}
 use Rattle.rectangles.specs.Laws.{same_rectangle, union_least}
 use Rattle.rectangles.proofs.class.RectangleKey.union.Goals as goal
 
-pub invariant-of-result : goal.invariant-of-result
-invariant-of-result c =
+pub invariant_of-result : goal.invariant_of-result
+invariant_of-result c =
     let a = c.args.self.now in
     let b = c.args.other.now in
     let l = min_via c.min.result a.left b.left a.west b.west c.min.ensures.value in
