@@ -22,7 +22,7 @@ pub struct Cursor {
 impl Cursor {
     /// Before the first match in the tree with its root on this page and so many levels.
     pub fn start<K: KeyClass>(root: u32, levels: u32) -> Cursor
-        ensures { Starts class root levels result }
+        ensures { Starts K.class root levels result }
     {
         Cursor {
             way: Way::start(root, levels),
@@ -33,7 +33,7 @@ impl Cursor {
     // Loads the node of the page in hand, unless it is held already.
     fn hold<S: PageStore>(&mut self, store: &mut S, page: u32)
         ensures way { self.new.way ≡ self.old.way }
-        ensures node { rule store.old → rule store.new × (meaning store.new ≡ meaning store.old) × Loads (meaning store.old) page self.old.node self.new.node }
+        ensures node { S.rule store.old → S.rule store.new × (S.meaning store.new ≡ S.meaning store.old) × Loads (S.meaning store.old) page self.old.node self.new.node }
     {
         if self.node.is_none() {
             self.node = load(store, page);
@@ -46,9 +46,9 @@ impl Cursor {
         store: &mut S,
         query: &K::Query,
     ) -> Option<Found<K>>
-        ensures kept { rule store.old → rule store.new × (meaning store.new ≡ meaning store.old) }
+        ensures kept { S.rule store.old → S.rule store.new × (S.meaning store.new ≡ S.meaning store.old) }
         ensures falls { Falls self.old self.new result }
-        ensures nexts { rule store.old → Nexts class (meaning store.old) query.now self.old self.new result }
+        ensures nexts { S.rule store.old → Nexts K.class (S.meaning store.old) query.now self.old self.new result }
     {
         while let Some(place) = self.way.here() {
             self.hold(store, place.page);

@@ -27,7 +27,7 @@ pub(crate) fn look<K: KeyClass>(
     query: &K::Query,
 ) -> Outcome<K>
     requires { Here way.old (Some place) }
-    ensures { Looked class query.now node.now way.old way.new result }
+    ensures { Looked K.class query.now node.now way.old way.new result }
 {
     let i = place.next as usize;
     if i >= node.count() {

@@ -25,7 +25,7 @@ fn plug_in<S: PageStore>(bank: &mut Bank<S>, feeder: &Feeder) -> Answer {
 
 // Works a search off: notes all that was still to come, in its order.
 fn list<S: PageStore>(search: &mut Search<Interval, S>, log: &mut Log)
-    ensures { rule (store_in (index_in search.old)) → Lists (meaning (store_in (index_in search.old))) search.old log.old log.new }
+    ensures { S.rule (store_in (index_in search.old)) → Lists (S.meaning (store_in (index_in search.old))) search.old log.old log.new }
 {
     while let Some(found) = search.next() {
         log.note(Answer::Found(found.number));

@@ -17,7 +17,7 @@ fn idle<K: KeyClass, S: PageStore>(
 ) -> (Session<K, S>, Answer<K>)
 where
     K::Query: Copy,
-    ensures { rule (store_in index) → rule (store_of result.0) × Steps class (meaning (store_in index)) (meaning (store_of result.0)) (Idle index) call.now result.0 result.1 }
+    ensures { S.rule (store_in index) → S.rule (store_of result.0) × Steps K.class (S.meaning (store_in index)) (S.meaning (store_of result.0)) (Idle index) call.now result.0 result.1 }
 {
     let answer = match call {
         Call::Begin(query) => return (Session::Searching(index.begin(*query)), Answer::Begun),
@@ -43,7 +43,7 @@ fn searching<K: KeyClass, S: PageStore>(
     mut search: Search<K, S>,
     call: &Call<K, K::Query>,
 ) -> (Session<K, S>, Answer<K>)
-    ensures { rule (store_in (index_in search)) → rule (store_of result.0) × Steps class (meaning (store_in (index_in search))) (meaning (store_of result.0)) (Searching search) call.now result.0 result.1 }
+    ensures { S.rule (store_in (index_in search)) → S.rule (store_of result.0) × Steps K.class (S.meaning (store_in (index_in search))) (S.meaning (store_of result.0)) (Searching search) call.now result.0 result.1 }
 {
     let answer = match call {
         Call::End => return (Session::Idle(search.end()), Answer::Ended),
@@ -61,7 +61,7 @@ impl<K: KeyClass, S: PageStore> Session<K, S> {
     pub fn step(self, call: &Call<K, K::Query>) -> (Session<K, S>, Answer<K>)
     where
         K::Query: Copy,
-        ensures { rule (store_of self) → rule (store_of result.0) × Steps class (meaning (store_of self)) (meaning (store_of result.0)) self call.now result.0 result.1 }
+        ensures { S.rule (store_of self) → S.rule (store_of result.0) × Steps K.class (S.meaning (store_of self)) (S.meaning (store_of result.0)) self call.now result.0 result.1 }
     {
         match self {
             Session::Idle(index) => idle(index, call),

@@ -8,7 +8,7 @@ use page_store::{PageStore, take_with};
 use std::io;
 
 pub fn plug_in<S: PageStore>(rt: &HostRuntime, store: &mut S, feeder: &Feeder) -> io::Result<()>
-    ensures { rule store.old → rule store.new }
+    ensures { S.rule store.old → S.rule store.new }
 {
     match take_with(store, &feeder.to_page()) {
         Ok(page) => println!(rt; "page {page} taken: {feeder}"),
@@ -17,7 +17,7 @@ pub fn plug_in<S: PageStore>(rt: &HostRuntime, store: &mut S, feeder: &Feeder) -
 }
 
 pub fn unplug<S: PageStore>(rt: &HostRuntime, store: &mut S, page: u32) -> io::Result<()>
-    ensures { rule store.old → rule store.new }
+    ensures { S.rule store.old → S.rule store.new }
 {
     match store.give_back(page) {
         Ok(()) => println!(rt; "page {page} given back"),
@@ -26,7 +26,7 @@ pub fn unplug<S: PageStore>(rt: &HostRuntime, store: &mut S, page: u32) -> io::R
 }
 
 pub fn list<S: PageStore>(rt: &HostRuntime, store: &mut S) -> io::Result<()>
-    ensures { rule store.old → rule store.new × (meaning store.new ≡ meaning store.old) }
+    ensures { S.rule store.old → S.rule store.new × (S.meaning store.new ≡ S.meaning store.old) }
 {
     let mut words = [0; 64];
     for page in 0..store.size() {
@@ -56,7 +56,7 @@ fn show_match(rt: &HostRuntime, feeder: &Feeder, query: &IntervalQuery) -> io::R
 
 /// Prints the feeders with a value from `low` to `high`.
 pub fn find<S: PageStore>(rt: &HostRuntime, store: &mut S, low: u32, high: u32) -> io::Result<()>
-    ensures { rule store.old → rule store.new × (meaning store.new ≡ meaning store.old) }
+    ensures { S.rule store.old → S.rule store.new × (S.meaning store.new ≡ S.meaning store.old) }
 {
     println!(rt; "feeders with {low} to {high} ohm:")?;
     let query = match IntervalQuery::meets(&[low, high, 0, 0]) {

@@ -58,7 +58,7 @@ const FEEDERS: [Feeder; 7] = [
 
 // Feeders are plugged in until no page is free, one is exchanged, and pages are named that are not there.
 fn work<S: PageStore>(rt: &HostRuntime, store: &mut S) -> io::Result<()>
-    ensures { rule store.old → rule store.new }
+    ensures { S.rule store.old → S.rule store.new }
 {
     for feeder in FEEDERS.iter() {
         plug_in(rt, store, feeder)?;
@@ -71,7 +71,7 @@ fn work<S: PageStore>(rt: &HostRuntime, store: &mut S) -> io::Result<()>
 
 // The same work behind one cache more; what it changed is then below.
 fn cached<S: PageStore>(rt: &HostRuntime, below: S) -> (S, io::Result<()>)
-    ensures { rule below → rule result.0 }
+    ensures { S.rule below → S.rule result.0 }
 {
     let mut cache = Cache::new(below);
     let worked = work(rt, &mut cache);

@@ -20,7 +20,7 @@ impl<K: KeyClass, S: PageStore> Index<K, S> {
     pub fn new(store: S) -> Self
         ensures store { store_in result ≡ store }
         ensures number { last_number (shape_in result) ≡ 0 }
-        ensures empty { rule store → StandsFor class.growing (meaning store) (meaning (store_in result)) (shape_in result) empty }
+        ensures empty { S.rule store → StandsFor K.class.growing (S.meaning store) (S.meaning (store_in result)) (shape_in result) empty }
     {
         let shape = Shape {
             root: Root { page: 0, levels: 0 },
@@ -49,7 +49,7 @@ impl<K: KeyClass, S: PageStore> Index<K, S> {
 
     /// Adds a record with this key, and answers its number: the nth insert that is done answers n.
     pub fn insert(&mut self, key: &K) -> Result<u32, InsertRefusal>
-        ensures { rule (store_in self.old) → rule (store_in self.new) × Inserts class (meaning (store_in self.old)) (meaning (store_in self.new)) (shape_in self.old) (shape_in self.new) key.now result }
+        ensures { S.rule (store_in self.old) → S.rule (store_in self.new) × Inserts K.class (S.meaning (store_in self.old)) (S.meaning (store_in self.new)) (shape_in self.old) (shape_in self.new) key.now result }
     {
         let Shape {
             root,
@@ -73,7 +73,7 @@ impl<K: KeyClass, S: PageStore> Index<K, S> {
 
     /// Takes out the record with this number and this key.
     pub fn remove(&mut self, number: u32, key: &K) -> Result<(), RemoveRefusal>
-        ensures { rule (store_in self.old) → rule (store_in self.new) × Removes class (meaning (store_in self.old)) (meaning (store_in self.new)) (shape_in self.old) (shape_in self.new) key.now number result }
+        ensures { S.rule (store_in self.old) → S.rule (store_in self.new) × Removes K.class (S.meaning (store_in self.old)) (S.meaning (store_in self.new)) (shape_in self.old) (shape_in self.new) key.now number result }
     {
         let Shape {
             root,
@@ -93,7 +93,7 @@ impl<K: KeyClass, S: PageStore> Index<K, S> {
 
     /// The levels, the records and the pages of the tree.
     pub fn measure(&self) -> (u32, u32, u32)
-        ensures { rule (store_in self.now) → Measures class.growing (meaning (store_in self.now)) (shape_in self.now) result }
+        ensures { S.rule (store_in self.now) → Measures K.class.growing (S.meaning (store_in self.now)) (shape_in self.now) result }
     {
         let pages = self.shape.spare.saturating_sub(self.store.free_count());
         (self.shape.root.levels, self.shape.records, pages)

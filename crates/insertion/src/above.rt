@@ -36,7 +36,7 @@ impl Above {
 
     // What is asked before a full leaf is split.
     pub(crate) fn ask<S: PageStore>(self, store: &S) -> Result<(), InsertRefusal>
-        ensures { rule store.now → FullLeaf self (meaning store.now) result }
+        ensures { S.rule store.now → FullLeaf self (S.meaning store.now) result }
     {
         let splits = self.run.saturating_add(1);
         let new_root = splits == self.levels;

@@ -14,7 +14,7 @@ fn share_out<K: KeyClass, S: PageStore>(
     stay: &Node,
     go: &Node,
 ) -> Option<Change<K>>
-    ensures { rule store.old → rule store.new × Shares K.Key.growing (meaning store.old) (meaning store.new) page stay.now go.now result }
+    ensures { S.rule store.old → S.rule store.new × Shares K.Key.growing (S.meaning store.old) (S.meaning store.new) page stay.now go.now result }
 {
     let Ok(new_page) = take_with(store, go.words()) else {
         return None;
@@ -36,7 +36,7 @@ pub(crate) fn add<K: KeyClass, S: PageStore>(
     key: &K,
     link: u32,
 ) -> Option<Change<K>>
-    ensures { rule store.old → rule store.new × Adds K.Key.growing class (meaning store.old) (meaning store.new) page node key.now link result }
+    ensures { S.rule store.old → S.rule store.new × Adds K.Key.growing K.class (S.meaning store.old) (S.meaning store.new) page node key.now link result }
 {
     if node.push(key, link) {
         let key = save(store, page, &node)?;
@@ -58,7 +58,7 @@ pub(crate) fn regrow<K: KeyClass, S: PageStore>(
     child: u32,
     change: Change<K>,
 ) -> Option<Change<K>>
-    ensures { rule store.old → rule store.new × Regrows K.Key.growing class (meaning store.old) (meaning store.new) page node i child change result }
+    ensures { S.rule store.old → S.rule store.new × Regrows K.Key.growing K.class (S.meaning store.old) (S.meaning store.new) page node i child change result }
 {
     node.replace(i, &change.key, child);
     match change.split_off {

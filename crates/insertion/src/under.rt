@@ -18,7 +18,7 @@ pub(crate) fn insert_under<K: KeyClass, S: PageStore>(
     key: &K,
     number: u32,
 ) -> Result<Change<K>, InsertRefusal>
-    ensures { rule store.old → rule store.new × InsertsUnder class (meaning store.old) (meaning store.new) page level above key.now number result }
+    ensures { S.rule store.old → S.rule store.new × InsertsUnder K.class (S.meaning store.old) (S.meaning store.new) page level above key.now number result }
 {
     let Some(node) = load(store, page) else {
         return Err(InsertRefusal::NotATree);

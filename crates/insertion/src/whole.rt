@@ -16,7 +16,7 @@ fn plant<K: KeyClass, S: PageStore>(
     key: &K,
     number: u32,
 ) -> Result<Root, InsertRefusal>
-    ensures { rule store.old → rule store.new × Plants K.Key.growing (meaning store.old) (meaning store.new) key.now number result }
+    ensures { S.rule store.old → S.rule store.new × Plants K.Key.growing (S.meaning store.old) (S.meaning store.new) key.now number result }
 {
     let mut leaf = Node::new::<K>(1);
     leaf.push(key, number);
@@ -33,7 +33,7 @@ fn raise<K: KeyClass, S: PageStore>(
     first: &Child<K>,
     second: &Child<K>,
 ) -> Option<Root>
-    ensures { rule store.old → rule store.new × Raises K.Key.growing (meaning store.old) (meaning store.new) levels first.now second.now result }
+    ensures { S.rule store.old → S.rule store.new × Raises K.Key.growing (S.meaning store.old) (S.meaning store.new) levels first.now second.now result }
 {
     let mut node = Node::new::<K>(levels);
     node.push(&first.key, first.page);
@@ -51,7 +51,7 @@ pub fn insert<K: KeyClass, S: PageStore>(
     key: &K,
     number: u32,
 ) -> Result<Root, InsertRefusal>
-    ensures { rule store.old → rule store.new × InsertsInto class (meaning store.old) (meaning store.new) root key.now number result }
+    ensures { S.rule store.old → S.rule store.new × InsertsInto K.class (S.meaning store.old) (S.meaning store.new) root key.now number result }
 {
     if root.levels == 0 {
         return plant(store, key, number);

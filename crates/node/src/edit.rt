@@ -36,7 +36,7 @@ impl Node {
 
     /// A node with no entry yet.
     pub fn new<K: Key>(level: u32) -> Node
-        ensures { Stands growing result level [] }
+        ensures { Stands K.growing result level [] }
     {
         let mut words = [0; 64];
         words[0] = level;
@@ -45,7 +45,7 @@ impl Node {
 
     /// The key at place `i`.
     pub fn key<K: Key>(&self, i: usize) -> Option<K>
-        ensures { (level : ℕ) (es : List (Entry K ℕ)) → Stands growing self.now level es → result ≡ option_map (λ e. e.key) (slice_get es i) }
+        ensures { (level : ℕ) (es : List (Entry K ℕ)) → Stands K.growing self.now level es → result ≡ option_map (λ e. e.key) (slice_get es i) }
     {
         if i >= self.words[1] as usize {
             return None;
@@ -61,7 +61,7 @@ impl Node {
 
     /// The record number or the page at place `i`.
     pub fn link<K: Key>(&self, i: usize) -> Option<u32>
-        ensures { (level : ℕ) (es : List (Entry K ℕ)) → Stands growing self.now level es → result ≡ option_map (λ e. e.link) (slice_get es i) }
+        ensures { (level : ℕ) (es : List (Entry K ℕ)) → Stands K.growing self.now level es → result ≡ option_map (λ e. e.link) (slice_get es i) }
     {
         if i >= self.words[1] as usize {
             return None;
@@ -71,16 +71,16 @@ impl Node {
 
     /// Puts an entry behind the others; false where there are twelve, and nothing changes.
     pub fn push<K: Key>(&mut self, key: &K, link: u32) -> bool
-        ensures { (level : ℕ) (es : List (Entry K ℕ)) → Stands growing self.old level es
-            → (result ≡ nat_lt (length es) 12) × Stands growing self.new level (if result then (es ++ record { key = key.entry.now; link = link } ∷ []) else es) }
+        ensures { (level : ℕ) (es : List (Entry K ℕ)) → Stands K.growing self.old level es
+            → (result ≡ nat_lt (length es) 12) × Stands K.growing self.new level (if result then (es ++ record { key = key.entry.now; link = link } ∷ []) else es) }
     {
         self.push_words(&key.squeeze(), link)
     }
 
     /// Puts the entries of another node behind the others; false where they would be more than 12, and nothing changes.
     pub fn append<K: Key>(&mut self, other: &Node) -> bool
-        ensures { (level other-level : ℕ) (es fs : List (Entry K ℕ)) → Stands growing self.old level es → Stands growing other.now other-level fs
-            → (result ≡ nat_le (length es + length fs) 12) × Stands growing self.new level (if result then es ++ fs else es) }
+        ensures { (level other-level : ℕ) (es fs : List (Entry K ℕ)) → Stands K.growing self.old level es → Stands K.growing other.now other-level fs
+            → (result ≡ nat_le (length es + length fs) 12) × Stands K.growing self.new level (if result then es ++ fs else es) }
     {
         let count = other.words[1] as usize;
         if self.words[1] as usize + count > 12 {
@@ -101,8 +101,8 @@ impl Node {
 
     /// Replaces the entry at place `i`; false where there is none, and nothing changes.
     pub fn replace<K: Key>(&mut self, i: usize, key: &K, link: u32) -> bool
-        ensures { (level : ℕ) (es : List (Entry K ℕ)) → Stands growing self.old level es
-            → (result ≡ nat_lt i (length es)) × Stands growing self.new level (set es i (record { key = key.entry.now; link = link })) }
+        ensures { (level : ℕ) (es : List (Entry K ℕ)) → Stands K.growing self.old level es
+            → (result ≡ nat_lt i (length es)) × Stands K.growing self.new level (set es i (record { key = key.entry.now; link = link })) }
     {
         if i >= self.words[1] as usize {
             return false;
@@ -113,8 +113,8 @@ impl Node {
 
     /// Takes the entry at place `i` out, and closes up the places behind it; false where there is none, and nothing changes.
     pub fn remove<K: Key>(&mut self, i: usize) -> bool
-        ensures { (level : ℕ) (es : List (Entry K ℕ)) → Stands growing self.old level es
-            → (result ≡ nat_lt i (length es)) × Stands growing self.new level (without es i) }
+        ensures { (level : ℕ) (es : List (Entry K ℕ)) → Stands K.growing self.old level es
+            → (result ≡ nat_lt i (length es)) × Stands K.growing self.new level (without es i) }
     {
         if i >= self.words[1] as usize {
             return false;
@@ -128,7 +128,7 @@ impl Node {
 
     /// The union of the keys, joined from the first entry to the last; none of no entries.
     pub fn union<K: Key>(&self) -> Option<K>
-        ensures { (level : ℕ) (es : List (Entry K ℕ)) → Stands growing self.now level es → result ≡ joined growing (keys es) }
+        ensures { (level : ℕ) (es : List (Entry K ℕ)) → Stands K.growing self.now level es → result ≡ joined K.growing (keys es) }
     {
         let mut union: K = self.key(0)?;
         for i in 1..self.count() {

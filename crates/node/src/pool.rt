@@ -25,7 +25,7 @@ impl Pool {
 
     /// A pool with no entries yet.
     pub fn new<K: Key>() -> Pool
-        ensures { Pooled growing result [] }
+        ensures { Pooled K.growing result [] }
     {
         Pool {
             keys: [[0; 4]; 15],
@@ -36,16 +36,16 @@ impl Pool {
 
     /// Puts an entry behind the others; false where there are 15, and nothing changes.
     pub fn push<K: Key>(&mut self, key: &K, link: u32) -> bool
-        ensures { (es : List (Entry K ℕ)) → Pooled growing self.old es
-            → (result ≡ nat_lt (length es) 15) × Pooled growing self.new (if result then (es ++ record { key = key.entry.now; link = link } ∷ []) else es) }
+        ensures { (es : List (Entry K ℕ)) → Pooled K.growing self.old es
+            → (result ≡ nat_lt (length es) 15) × Pooled K.growing self.new (if result then (es ++ record { key = key.entry.now; link = link } ∷ []) else es) }
     {
         self.put(&key.squeeze(), link)
     }
 
     /// Puts the entries of a node behind the others; false where they would be more than 15, and nothing changes.
     pub fn push_all<K: Key>(&mut self, node: &Node) -> bool
-        ensures { (level : ℕ) (es fs : List (Entry K ℕ)) → Pooled growing self.old es → Stands growing node.now level fs
-            → (result ≡ nat_le (length es + length fs) 15) × Pooled growing self.new (if result then es ++ fs else es) }
+        ensures { (level : ℕ) (es fs : List (Entry K ℕ)) → Pooled K.growing self.old es → Stands K.growing node.now level fs
+            → (result ≡ nat_le (length es + length fs) 15) × Pooled K.growing self.new (if result then es ++ fs else es) }
     {
         let count = node.words[1] as usize;
         if self.count + count > 15 {
@@ -67,7 +67,7 @@ impl Pool {
     /// Two nodes of this level: the entries that stay, and those that go, as the class splits them.
     pub fn split<K: KeyClass>(&self, level: u32) -> (Node, Node)
         ensures { (es : List (Entry K ℕ)) → Pooled K.Key.growing self.now es → 13 ≤ length es → length es ≤ 15
-            → Stands K.Key.growing result.0 level (stay (class.split (keys es)) es) × Stands K.Key.growing result.1 level (go (class.split (keys es)) es) }
+            → Stands K.Key.growing result.0 level (stay (K.class.split (keys es)) es) × Stands K.Key.growing result.1 level (go (K.class.split (keys es)) es) }
     {
         let goes = K::pick_split(&self.keys[0..self.count]);
         let mut stay = Node::new::<K>(level);

@@ -24,7 +24,7 @@ fn zero_from(words: &[u32; 64], from: usize) -> bool
 // Whether the key words of each entry are a key's.
 fn keys_fit<K: Key>(words: &[u32; 64]) -> bool
     requires { count_in words.now ≤ 12 }
-    ensures { result ≡ keys_fit growing words.now }
+    ensures { result ≡ keys_fit K.growing words.now }
 {
     for i in 0..words[1] as usize {
         let at = 4 + 5 * i;
@@ -57,7 +57,7 @@ fn links_fit(words: &[u32; 64]) -> bool
 
 // Why the words are no node, if they are none.
 fn refusal<K: Key>(words: &[u32; 64]) -> Option<NodeRefusal>
-    ensures { result ≡ refusal_of growing words.now }
+    ensures { result ≡ refusal_of K.growing words.now }
 {
     let count = words[1] as usize;
     if words[0] < 1 || words[0] > 7 {
@@ -78,10 +78,10 @@ fn refusal<K: Key>(words: &[u32; 64]) -> Option<NodeRefusal>
 impl Node {
     /// The node that the words of a page are, or why they are none.
     pub fn read<K: Key>(words: &[u32; 64]) -> Result<Node, NodeRefusal>
-        ensures refusal { result_err result ≡ refusal_of growing words.now }
+        ensures refusal { result_err result ≡ refusal_of K.growing words.now }
         ensures words { IfOk result (λ n. words_in n ≡ words.now) }
-        ensures node { IfOk result (λ n. IsNode (level_in words.now) (entries_in growing (rows words.now)) × Stands growing n (level_in words.now) (entries_in growing (rows words.now))) }
-        ensures written { (level : ℕ) (es : List (Entry K ℕ)) → IsNode level es → words.now ≡ node_words growing level es → (is_ok result ≡ true) × (entries_in growing (rows words.now) ≡ es) }
+        ensures node { IfOk result (λ n. IsNode (level_in words.now) (entries_in K.growing (rows words.now)) × Stands K.growing n (level_in words.now) (entries_in K.growing (rows words.now))) }
+        ensures written { (level : ℕ) (es : List (Entry K ℕ)) → IsNode level es → words.now ≡ node_words K.growing level es → (is_ok result ≡ true) × (entries_in K.growing (rows words.now) ≡ es) }
     {
         if let Some(refusal) = refusal::<K>(words) {
             return Err(refusal);

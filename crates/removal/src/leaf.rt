@@ -9,7 +9,7 @@ use node::Node;
 
 // The place of the first entry with this number and these key words.
 fn place_of<K: Key>(leaf: &Node, key: &K, number: u32) -> Option<usize>
-    ensures { (level : ℕ) (es : List (Entry K ℕ)) → Stands growing leaf.now level es → option_map (without es) result ≡ without_first (is_record growing key.now number) es }
+    ensures { (level : ℕ) (es : List (Entry K ℕ)) → Stands K.growing leaf.now level es → option_map (without es) result ≡ without_first (is_record K.growing key.now number) es }
 {
     let words = key.squeeze();
     for i in 0..leaf.count() {
@@ -24,7 +24,7 @@ fn place_of<K: Key>(leaf: &Node, key: &K, number: u32) -> Option<usize>
 
 // Takes the record out of a leaf; none where the leaf has none.
 pub(crate) fn take_out<K: Key>(mut leaf: Node, key: &K, number: u32) -> Option<Node>
-    ensures { (level : ℕ) (es : List (Entry K ℕ)) → Stands growing leaf level es → option_map words_in result ≡ option_map (node_words growing level) (without_first (is_record growing key.now number) es) }
+    ensures { (level : ℕ) (es : List (Entry K ℕ)) → Stands K.growing leaf level es → option_map words_in result ≡ option_map (node_words K.growing level) (without_first (is_record K.growing key.now number) es) }
 {
     let place = place_of(&leaf, key, number)?;
     leaf.remove::<K>(place);

@@ -14,7 +14,7 @@ fn merge<K: KeyClass, S: PageStore>(
     page: u32,
     x: &Node,
 ) -> Option<K>
-    ensures { rule store.old → rule store.new × Merges K.Key.growing (meaning store.old) (meaning store.new) partner y page x.now result }
+    ensures { S.rule store.old → S.rule store.new × Merges K.Key.growing (S.meaning store.old) (S.meaning store.new) partner y page x.now result }
 {
     y.append::<K>(x);
     let key = save(store, partner, &y)?;
@@ -32,7 +32,7 @@ fn share_out<K: KeyClass, S: PageStore>(
     page: u32,
     x: &Node,
 ) -> Option<(K, K)>
-    ensures { rule store.old → rule store.new × Shares K.Key.growing class (meaning store.old) (meaning store.new) partner y.now page x.now result }
+    ensures { S.rule store.old → S.rule store.new × Shares K.Key.growing K.class (S.meaning store.old) (S.meaning store.new) partner y.now page x.now result }
 {
     let mut pool = Pool::new::<K>();
     pool.push_all::<K>(y);
@@ -51,7 +51,7 @@ fn join<K: KeyClass, S: PageStore>(
     page: u32,
     x: &Node,
 ) -> Option<Node>
-    ensures { rule store.old → rule store.new × Joins class (meaning store.old) (meaning store.new) node i page x.now result }
+    ensures { S.rule store.old → S.rule store.new × Joins K.class (S.meaning store.old) (S.meaning store.new) node i page x.now result }
 {
     let mut others = node;
     others.remove::<K>(i);
@@ -80,7 +80,7 @@ pub(crate) fn mend<K: KeyClass, S: PageStore>(
     page: u32,
     x: &Node,
 ) -> Option<Node>
-    ensures { rule store.old → rule store.new × Mends class (meaning store.old) (meaning store.new) node i page x.now result }
+    ensures { S.rule store.old → S.rule store.new × Mends K.class (S.meaning store.old) (S.meaning store.new) node i page x.now result }
 {
     if x.count() < 4 {
         return join::<K, S>(store, node, i, page, x);

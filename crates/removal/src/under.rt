@@ -18,7 +18,7 @@ pub(crate) fn remove_under<K: KeyClass, S: PageStore>(
     key: &K,
     number: u32,
 ) -> Result<Node, RemoveRefusal>
-    ensures { rule store.old → rule store.new × RemovesUnder class (meaning store.old) (meaning store.new) page level key.now number result }
+    ensures { S.rule store.old → S.rule store.new × RemovesUnder K.class (S.meaning store.old) (S.meaning store.new) page level key.now number result }
 {
     let Some(node) = load(store, page) else {
         return Err(RemoveRefusal::NotATree);

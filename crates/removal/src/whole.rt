@@ -11,7 +11,7 @@ use tree_pages::Root;
 // Writes the root, or gives its page back: a leaf with no entry, or a node above that gives way to its one child. None
 // where the pages form no tree.
 fn settle<K: Key, S: PageStore>(store: &mut S, root: Root, node: &Node) -> Option<Root>
-    ensures { rule store.old → rule store.new × Settles growing (meaning store.old) (meaning store.new) root node.now result }
+    ensures { S.rule store.old → S.rule store.new × Settles K.growing (S.meaning store.old) (S.meaning store.new) root node.now result }
 {
     let least = if root.levels > 1 { 2 } else { 1 };
     if node.count() >= least {
@@ -41,7 +41,7 @@ pub fn remove<K: KeyClass, S: PageStore>(
     key: &K,
     number: u32,
 ) -> Result<Root, RemoveRefusal>
-    ensures { rule store.old → rule store.new × RemovesFrom class (meaning store.old) (meaning store.new) root key.now number result }
+    ensures { S.rule store.old → S.rule store.new × RemovesFrom K.class (S.meaning store.old) (S.meaning store.new) root key.now number result }
 {
     if root.levels == 0 {
         return Err(RemoveRefusal::NoSuchRecord);

@@ -10,7 +10,7 @@ use page_store::PageStore;
 
 /// The node on a page; none where the page is not held, or has more than 12 entries.
 pub fn load<S: PageStore>(store: &mut S, page: u32) -> Option<Node>
-    ensures { rule store.old → rule store.new × (meaning store.new ≡ meaning store.old) × (option_map words_in result ≡ loaded (meaning store.old) page) }
+    ensures { S.rule store.old → S.rule store.new × (S.meaning store.new ≡ S.meaning store.old) × (option_map words_in result ≡ loaded (S.meaning store.old) page) }
 {
     let mut words = [0; 64];
     match store.read(page, &mut words) {
@@ -21,7 +21,7 @@ pub fn load<S: PageStore>(store: &mut S, page: u32) -> Option<Node>
 
 /// Writes a node to its page, and answers the union of its keys; none where the page is not held, or the node has no entry.
 pub fn save<K: Key, S: PageStore>(store: &mut S, page: u32, node: &Node) -> Option<K>
-    ensures { rule store.old → rule store.new × Saves growing (meaning store.old) (meaning store.new) page node.now result }
+    ensures { S.rule store.old → S.rule store.new × Saves K.growing (S.meaning store.old) (S.meaning store.new) page node.now result }
 {
     match store.write(page, node.words()) {
         Ok(()) => node.union(),
@@ -31,7 +31,7 @@ pub fn save<K: Key, S: PageStore>(store: &mut S, page: u32, node: &Node) -> Opti
 
 /// The place of the entry whose key grows least for `key`, the lowest on a tie; none where there is no entry.
 pub fn least_growth<K: Key>(node: &Node, key: &K) -> Option<usize>
-    ensures { (level : ℕ) (es : List (Entry K ℕ)) → Stands growing node.now level es → result ≡ least_place growing key.now es }
+    ensures { (level : ℕ) (es : List (Entry K ℕ)) → Stands K.growing node.now level es → result ≡ least_place K.growing key.now es }
 {
     let first: K = node.key(0)?;
     let mut best = 0;
