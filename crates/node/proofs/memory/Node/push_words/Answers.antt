@@ -11,7 +11,10 @@ invariant_of-self c =
     let u = c.put.new.self.words in
     let n = count_with w u c.args.key.now (count_in w) c.args.link c.put.ensures c.args.self.now.long c.if-count-ge12.false in
     let s = get_or-set_same u 1 (count_in u + 1) 0 (omega (arith, c.put.new.self.long)) in
-    (length-set u 1 (count_in u + 1) ∙ c.put.new.self.long, (omega (arith, s, n, c.if-count-ge12.false), tt))
+    record {
+      long = length-set u 1 (count_in u + 1) ∙ c.put.new.self.long;
+      few = omega (arith, s, n, c.if-count-ge12.false);
+    }
 
 pub returns : goal.returns
 returns c =
