@@ -501,9 +501,9 @@ module _ {K Q : Type 0} (C : Class K Q) (coded : Coded C.growing) (law : Lawful 
   removes_editing w k n rules = removes C coded law k n w rules
 
   -- The edits of a removal are more than the theorem tells.
-  less_told : {G : Growing K} {w : Gist K} {k : K} {n : ℕ} {edits : Edits} (o : Option (Gist K)) → Edited G w k n edits o → Taken G w k n o
-  less_told None not = not
-  less_told (Some z) a = a.takes
+  less_told : (G : Growing K) (w : Gist K) (k : K) (n : ℕ) (edits : Edits) (o : Option (Gist K)) → Edited G w k n edits o → Taken G w k n o
+  less_told G w k n edits None not = not
+  less_told G w k n edits (Some z) a = a.takes
 
   pub takes : RemoveTakes C
-  takes w k n rules = less_told (removed C k n w) (removes_editing w k n rules)
+  takes w k n rules = less_told _ w k n (remove_edits C k n w) (removed C k n w) (removes_editing w k n rules)

@@ -1,6 +1,5 @@
 -- What an insert and a removal write to the pages of a tree, page by page and in order, and the theorems that say it.
 use Rattle.std.specs.Prelude.{◌≡◌, ℕ, zero, suc, Bool, cond, List, [], ◌∷◌, ◌++◌, map, length, Some, None, Option, nat_le}
-use Rattle.std.proofs.Math.Logic.{⊥}
 use mathlib.Core.List.{Perm}
 use Rattle.std.specs.List.{remove as without, AllByRecursion as All, slice_get}
 use Rattle.key_class.specs.Class.{Growing, Class}
