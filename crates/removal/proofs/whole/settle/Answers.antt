@@ -7,8 +7,8 @@ pub returns-in-Ok : goal.returns-in-Ok
 returns-in-Ok g c = λ ru.
     let v = c.in-Ok.ensures ru in
     let is : Least c.args.root.levels c.if-root-gt1.least = elim c.if-root-gt1.branch [
-      | then-root-gt1 w ↦ inl (w.if-root-gt1.true, w.least_is)
-      | else-root-gt1 w ↦ inr (w.if-root-gt1.false, w.least_is)
+      | then-root-gt1 w ↦ inl (w.if-root-gt1.true, w.least-is)
+      | else-root-gt1 w ↦ inr (w.if-root-gt1.false, w.least-is)
     ] in
     (v.0, written_again g.K.Key.growing (g.S.PageStore.meaning c.args.store.now) (g.S.PageStore.meaning c.write.new.self) c.args.root c.args.node.now c.if-root-gt1.least is (omega (arith, c.count.ensures, c.if-count-least.true)) c.words.ensures v.1)
 
@@ -26,8 +26,8 @@ pub returns-in_err-page : goal.returns-in_err-page
 returns-in_err-page g c = λ ru.
     let v = c.in_default.ensures ru in
     let is : Least c.args.root.levels c.if-root-gt1.least = elim c.if-root-gt1.branch [
-      | then-root-gt1 w ↦ inl (w.if-root-gt1.true, w.least_is)
-      | else-root-gt1 w ↦ inr (w.if-root-gt1.false, w.least_is)
+      | then-root-gt1 w ↦ inl (w.if-root-gt1.true, w.least-is)
+      | else-root-gt1 w ↦ inr (w.if-root-gt1.false, w.least-is)
     ] in (
       v.0,
       no_child g.K.Key.growing (g.S.PageStore.meaning c.args.store.now) (g.S.PageStore.meaning c.give_back.new.self) c.args.root c.args.node.now c.if-root-gt1.least is (omega (arith, c.count.ensures, c.if-count-least.false)) v.1
@@ -38,8 +38,8 @@ pub returns-in_ok-page : goal.returns-in_ok-page
 returns-in_ok-page g c = λ ru.
     let v = c.in_default.ensures ru in
     let is : Least c.args.root.levels c.if-root-gt1.least = elim c.if-root-gt1.branch [
-      | then-root-gt1 w ↦ inl (w.if-root-gt1.true, w.least_is)
-      | else-root-gt1 w ↦ inr (w.if-root-gt1.false, w.least_is)
+      | then-root-gt1 w ↦ inl (w.if-root-gt1.true, w.least-is)
+      | else-root-gt1 w ↦ inr (w.if-root-gt1.false, w.least-is)
     ] in (
       v.0,
       lower g.K.Key.growing (g.S.PageStore.meaning c.args.store.now) (g.S.PageStore.meaning c.give_back.new.self) c.args.root c.args.node.now c.if-root-gt1.least is (omega (arith, c.count.ensures, c.if-count-least.false)) v.1
@@ -50,7 +50,7 @@ pub returns-else-root-gt1-2 : goal.returns-else-root-gt1-2
 returns-else-root-gt1-2 g c = λ ru.
     let v = c.in_default.ensures ru in
     let is : Least c.args.root.levels c.if-root-gt1.least = elim c.if-root-gt1.branch [
-      | then-root-gt1 w ↦ inl (w.if-root-gt1.true, w.least_is)
-      | else-root-gt1 w ↦ inr (w.if-root-gt1.false, w.least_is)
+      | then-root-gt1 w ↦ inl (w.if-root-gt1.true, w.least-is)
+      | else-root-gt1 w ↦ inr (w.if-root-gt1.false, w.least-is)
     ] in
     (v.0, gone g.K.Key.growing (g.S.PageStore.meaning c.args.store.now) (g.S.PageStore.meaning c.give_back.new.self) c.args.root c.args.node.now c.if-root-gt1.least is (omega (arith, c.count.ensures, c.if-count-least.false)) v.1 c.if-root-gt1-2.false)

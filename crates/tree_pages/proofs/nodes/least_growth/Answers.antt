@@ -28,10 +28,10 @@ loop-i-preserved g c = λ level es is.
     let old = c.loop-i.invariant level es is in
     elim c.if-growth-least.branch [
       | then-growth-least w ↦
-          ap (λ (b : ℕ). least_from b c.if-growth-least.least (i + 1) left) w.best-is ∙ ap (λ (n : ℕ). least_from i n (i + 1) left) w.least_is
+          ap (λ (b : ℕ). least_from b c.if-growth-least.least (i + 1) left) w.best-is ∙ ap (λ (n : ℕ). least_from i n (i + 1) left) w.least-is
           ∙ less_here G k es i c.loop-i.best c.loop-i.least c.in_ok-other.other _ s c.growth-growth.ensures w.if-growth-least.true ∙ old
       | else-growth-least w ↦
-          ap (λ (b : ℕ). least_from b c.if-growth-least.least (i + 1) left) w.best-is ∙ ap (λ (n : ℕ). least_from c.loop-i.best n (i + 1) left) w.least_is
+          ap (λ (b : ℕ). least_from b c.if-growth-least.least (i + 1) left) w.best-is ∙ ap (λ (n : ℕ). least_from c.loop-i.best n (i + 1) left) w.least-is
           ∙ no_less_here G k es i c.loop-i.best c.loop-i.least c.in_ok-other.other _ s c.growth-growth.ensures w.if-growth-least.false ∙ old
     ]
 
