@@ -3,10 +3,10 @@ use Rattle.node.proofs.Places.{count_is}
 use Rattle.insertion.proofs.Filling.{entry, saved_none, saved, filled_one, regrown_one, regrown_two, room_same}
 use Rattle.insertion.proofs.fill.regrow.Goals as goal
 
-pub returns-in_err-key : goal.returns-in_err-key
-returns-in_err-key g c = λ ru.
+pub returns-in_err-key-in-None : goal.returns-in_err-key-in-None
+returns-in_err-key-in-None g c = λ ru.
     let G = g.K.Key.growing in
-    let v = c.in_err-key.ensures ru in (
+    let v = c.in_err-key-in-None.ensures ru in (
       v.0,
       record {
         says = λ level es st within room.
@@ -16,10 +16,10 @@ returns-in_err-key g c = λ ru.
       },
     )
 
-pub returns-in_ok-key : goal.returns-in_ok-key
-returns-in_ok-key g c = λ ru.
+pub returns-in_ok-key-in-None : goal.returns-in_ok-key-in-None
+returns-in_ok-key-in-None g c = λ ru.
     let G = g.K.Key.growing in
-    let v = c.in_ok-key.ensures ru in (
+    let v = c.in_ok-key-in-None.ensures ru in (
       v.0,
       record {
         says = λ level es st within room.
