@@ -1,6 +1,6 @@
 -- The words on pages fix the tree.
 use Rattle.std.proofs.Common.{◌≡◌, ℕ, zero, suc, List, [], ◌∷◌, ◌++◌, map, length, Some, None, Option, sym, refl, ap, ◌∙◌, arith}
-use Rattle.std.specs.List.{flat_map, AllByRecursion as All}
+use Rattle.std.specs.List.{flat_map, AllByRecursion}
 use Rattle.page_store.specs.Pages.{Pages, at}
 use Rattle.key_class.specs.Class.{Growing, Coded}
 use Rattle.node.specs.Nodes.{Entry, node_words}

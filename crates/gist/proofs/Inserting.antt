@@ -3,7 +3,7 @@ use Rattle.std.proofs.Common.{◌≡◌, ℕ, zero, suc, ◌+◌, ◌<◌, ◌�
 use mathlib.Core.List.Perm
 use mathlib.Core.List.{map-append, Perm, Nodup, perm_append_singleton}
 use lib.ListN.{length-map}
-use Rattle.std.specs.List.{flat_map, remove as without, AllByRecursion as All, slice_get}
+use Rattle.std.specs.List.{flat_map, remove as without, AllByRecursion, slice_get}
 use Rattle.std.proofs.lemmas.List.{append-nil}
 use Rattle.std.proofs.lemmas.Bool.{leb-true, leb-false, eqb-true, eqb-false, lt-leb, eq-eqb, ne_eqb}
 use Rattle.key_class.specs.Class.{Growing, Class, Lawful}
@@ -82,7 +82,7 @@ module _ {K : Type 0} (G : Growing K) where
     pub written_same : Perm (written_of G h r.node ++ flat_map (written_of G h) r.split_off) (own_pages G h r ++ flat_map (written_at G h) es)
     pub pages_used : Perm (numbers (own_pages G h r) ++ r.unused) (p ∷ fs)
     pub node_fine : Fine G h lo r.node
-    pub split_fine : All (λ u. Fine G h 4 r.node × Fine G h 4 u) r.split_off
+    pub split_fine : AllByRecursion (λ u. Fine G h 4 r.node × Fine G h 4 u) r.split_off
     pub few : length r.split_off ≡ cond (leb (length es) 12) 0 1
     pub used : length r.split_off + length r.unused ≡ length fs
 
@@ -95,7 +95,7 @@ module _ {K : Type 0} (G : Growing K) where
     pub come_is : differs.come ≡ writes
     pub used_pages : Perm (new ++ r.unused) (paged steps ++ fs)
     pub node_fine : Fine G h lo r.node
-    pub split_fine : All (λ u. Fine G h 4 r.node × Fine G h 4 u) r.split_off
+    pub split_fine : AllByRecursion (λ u. Fine G h 4 r.node × Fine G h 4 u) r.split_off
     pub long : length steps ≡ h + 1
     pub few : length r.split_off ≡ cond (new_root steps) 1 0
     pub used : splits steps + length r.unused ≡ length fs
@@ -123,7 +123,7 @@ module _ {K Q : Type 0} (C : Class K Q) (law : Lawful C) where
   abbrev G : Growing K
   G = C.growing
 
-  split_fits : (h lo : ℕ) (fs : List ℕ) (p : ℕ) (es : List (Entry K (Link K h))) → All (Ruled G h) es → lo ≤ 4 → length es ≡ 13 → 1 ≤ length fs →
+  split_fits : (h lo : ℕ) (fs : List ℕ) (p : ℕ) (es : List (Entry K (Link K h))) → AllByRecursion (Ruled G h) es → lo ≤ 4 → length es ≡ 13 → 1 ≤ length fs →
       Fills G h lo fs p es (split C h fs p es)
   split_fits h lo [] p es rules l e f = absurd (omega arith)
   split_fits h lo (f ∷ fs) p es rules l e g =
@@ -151,7 +151,7 @@ module _ {K Q : Type 0} (C : Class K Q) (law : Lawful C) where
       on_f : Written
       on_f = (f, words_of G h (record { page = f; entries = go bs es })) ∷ []
 
-  fill_fits : (h lo : ℕ) (fs : List ℕ) (p : ℕ) (es : List (Entry K (Link K h))) → All (Ruled G h) es → lo ≤ 4 → lo ≤ length es → length es ≤ 13 →
+  fill_fits : (h lo : ℕ) (fs : List ℕ) (p : ℕ) (es : List (Entry K (Link K h))) → AllByRecursion (Ruled G h) es → lo ≤ 4 → lo ≤ length es → length es ≤ 13 →
       (length es ≡ 13 → 1 ≤ length fs) → Fills G h lo fs p es (fill C h fs p es)
   fill_fits h lo fs p es rules l m n f = at (leb (length es) 12) refl
     where
@@ -171,7 +171,7 @@ module _ {K Q : Type 0} (C : Class K Q) (law : Lawful C) where
   -- A node of height h whose entries have become es: of the pages fs, left are still to be taken, and new were written
   -- below it.
   lift : (k : K) (n h lo : ℕ) (fs : List ℕ) (t : Tree K h) (steps : List Step) (es : List (Entry K (Link K h))) (left new : List ℕ) → lo ≤ 4 → lo ≤ length es →
-      splits (steps ++ step t ∷ []) ≤ length fs → length steps ≡ h → All (Ruled G h) es →
+      splits (steps ++ step t ∷ []) ≤ length fs → length steps ≡ h → AllByRecursion (Ruled G h) es →
       Perm (flat_map (records_at h) es) (record { key = k; link = n } ∷ records_of h t) →
       (d : Differ (flat_map (written_at G h) t.entries) (flat_map (written_at G h) es) (paged steps) new) →
       Perm (new ++ left) (paged steps ++ fs) →

@@ -1,6 +1,6 @@
 -- A tree within the rules has at least so many pages.
 use Rattle.std.proofs.Common.{ℕ, zero, suc, ◌*◌, ◌≤◌, List, [], ◌∷◌, ◌++◌, length, mul-le-mul_right, arith, length-append}
-use Rattle.std.specs.List.{flat_map, AllByRecursion as All}
+use Rattle.std.specs.List.{flat_map, AllByRecursion}
 use Rattle.key_class.specs.Class.{Growing}
 use Rattle.node.specs.Nodes.{Entry}
 use Rattle.gist.specs.Tree.{Link, Tree, Gist, empty, root, levels, pages, pages_at}
@@ -8,7 +8,7 @@ use Rattle.gist.specs.Rules.{Ruled, PageRules, least_below, least_pages}
 use Rattle.gist.specs.Theorems.{LeastPages}
 use Rattle.gist.proofs.Lists.{all_map}
 
-long : {A B : Type 0} (f : A → List B) (least : ℕ) (xs : List A) → All (λ x. least ≤ length (f x)) xs → length xs * least ≤ length (flat_map f xs)
+long : {A B : Type 0} (f : A → List B) (least : ℕ) (xs : List A) → AllByRecursion (λ x. least ≤ length (f x)) xs → length xs * least ≤ length (flat_map f xs)
 long f least [] h = omega arith
 long f least (x ∷ xs) h = omega (arith, long f least xs h.1, length-append (f x) (flat_map f xs), h.0)
 

@@ -1,28 +1,28 @@
 -- Lists: All, joined, kept-by, stay and go.
 use Rattle.std.proofs.Common.{◌≡◌, ℕ, zero, suc, ◌+◌, ◌<◌, ◌≤◌, Bool, true, false, cond, ltb, List, [], ◌∷◌, ◌++◌, map, length, set, Some, None, filter, Option, sym, refl, ap, ◌∙◌, arith}
-use Rattle.std.specs.List.{flat_map, AllByRecursion as All, slice_get}
+use Rattle.std.specs.List.{flat_map, AllByRecursion, slice_get}
 use Rattle.std.proofs.lemmas.List.{append_assoc, append-nil}
 use Rattle.node.specs.Nodes.{stay, go}
 use Rattle.gist.specs.Insert.{least, least_from}
 
 module _ {A : Type 0} where
-  pub all_map : {P Q : A → Type 0} → ((a : A) → P a → Q a) → (xs : List A) → All P xs → All Q xs
+  pub all_map : {P Q : A → Type 0} → ((a : A) → P a → Q a) → (xs : List A) → AllByRecursion P xs → AllByRecursion Q xs
   all_map f [] h = tt
   all_map f (x ∷ xs) h = (f x h.0, all_map f xs h.1)
 
-  pub all_map₂ : {P Q R : A → Type 0} → ((a : A) → P a → Q a → R a) → (xs : List A) → All P xs → All Q xs → All R xs
+  pub all_map₂ : {P Q R : A → Type 0} → ((a : A) → P a → Q a → R a) → (xs : List A) → AllByRecursion P xs → AllByRecursion Q xs → AllByRecursion R xs
   all_map₂ f [] h k = tt
   all_map₂ f (x ∷ xs) h k = (f x h.0 k.0, all_map₂ f xs h.1 k.1)
 
-  pub all-++ : (P : A → Type 0) (xs ys : List A) → All P xs → All P ys → All P (xs ++ ys)
+  pub all-++ : (P : A → Type 0) (xs ys : List A) → AllByRecursion P xs → AllByRecursion P ys → AllByRecursion P (xs ++ ys)
   all-++ P [] ys h k = k
   all-++ P (x ∷ xs) ys h k = (h.0, all-++ P xs ys h.1 k)
 
-  pub all_left : (P : A → Type 0) (xs ys : List A) → All P (xs ++ ys) → All P xs
+  pub all_left : (P : A → Type 0) (xs ys : List A) → AllByRecursion P (xs ++ ys) → AllByRecursion P xs
   all_left P [] ys h = tt
   all_left P (x ∷ xs) ys h = (h.0, all_left P xs ys h.1)
 
-  pub all_right : (P : A → Type 0) (xs ys : List A) → All P (xs ++ ys) → All P ys
+  pub all_right : (P : A → Type 0) (xs ys : List A) → AllByRecursion P (xs ++ ys) → AllByRecursion P ys
   all_right P [] ys h = h
   all_right P (x ∷ xs) ys h = all_right P xs ys h.1
 
@@ -34,16 +34,16 @@ module _ {A : Type 0} where
       step true e = ap {B = List A} (λ r. x ∷ r) e
       step false e = e
 
-  pub kept_none : (p : A → Bool) (xs : List A) → All (λ x. p x ≡ false) xs → filter p xs ≡ []
+  pub kept_none : (p : A → Bool) (xs : List A) → AllByRecursion (λ x. p x ≡ false) xs → filter p xs ≡ []
   kept_none p [] h = refl
   kept_none p (x ∷ xs) h = rw h.0 (kept_none p xs h.1)
 
 module _ {A B : Type 0} where
-  pub all_joined : (P : B → Type 0) (f : A → List B) (xs : List A) → All (λ x. All P (f x)) xs → All P (flat_map f xs)
+  pub all_joined : (P : B → Type 0) (f : A → List B) (xs : List A) → AllByRecursion (λ x. AllByRecursion P (f x)) xs → AllByRecursion P (flat_map f xs)
   all_joined P f [] h = tt
   all_joined P f (x ∷ xs) h = all-++ P (f x) (flat_map f xs) h.0 (all_joined P f xs h.1)
 
-  pub joined_all : (P : B → Type 0) (f : A → List B) (xs : List A) → All P (flat_map f xs) → All (λ x. All P (f x)) xs
+  pub joined_all : (P : B → Type 0) (f : A → List B) (xs : List A) → AllByRecursion P (flat_map f xs) → AllByRecursion (λ x. AllByRecursion P (f x)) xs
   joined_all P f [] h = tt
   joined_all P f (x ∷ xs) h = (all_left P (f x) (flat_map f xs) h, joined_all P f xs (all_right P (f x) (flat_map f xs) h))
 
@@ -56,29 +56,29 @@ module _ {A B : Type 0} where
   kept_joined m f [] = refl
   kept_joined m f (x ∷ xs) = kept-++ m (f x) (flat_map f xs) ∙ ap (λ (r : List B). filter m (f x) ++ r) (kept_joined m f xs)
 
-  pub joined_same : (f g : A → List B) (xs : List A) → All (λ x. f x ≡ g x) xs → flat_map f xs ≡ flat_map g xs
+  pub joined_same : (f g : A → List B) (xs : List A) → AllByRecursion (λ x. f x ≡ g x) xs → flat_map f xs ≡ flat_map g xs
   joined_same f g [] h = refl
   joined_same f g (x ∷ xs) h = rw (h.0, joined_same f g xs h.1)
 
 module _ {A : Type 0} where
-  pub all_stay : (P : A → Type 0) (bs : List Bool) (xs : List A) → All P xs → All P (stay bs xs)
+  pub all_stay : (P : A → Type 0) (bs : List Bool) (xs : List A) → AllByRecursion P xs → AllByRecursion P (stay bs xs)
   all_stay P [] xs h = h
   all_stay P (b ∷ bs) [] h = tt
   all_stay P (true ∷ bs) (x ∷ xs) h = all_stay P bs xs h.1
   all_stay P (false ∷ bs) (x ∷ xs) h = (h.0, all_stay P bs xs h.1)
 
-  pub all_go : (P : A → Type 0) (bs : List Bool) (xs : List A) → All P xs → All P (go bs xs)
+  pub all_go : (P : A → Type 0) (bs : List Bool) (xs : List A) → AllByRecursion P xs → AllByRecursion P (go bs xs)
   all_go P [] xs h = tt
   all_go P (b ∷ bs) [] h = tt
   all_go P (true ∷ bs) (x ∷ xs) h = (h.0, all_go P bs xs h.1)
   all_go P (false ∷ bs) (x ∷ xs) h = all_go P bs xs h.1
 
-  pub all_set : (P : A → Type 0) (xs : List A) (i : ℕ) (x : A) → All P xs → P x → All P (set xs i x)
+  pub all_set : (P : A → Type 0) (xs : List A) (i : ℕ) (x : A) → AllByRecursion P xs → P x → AllByRecursion P (set xs i x)
   all_set P [] i x h p = tt
   all_set P (y ∷ xs) zero x h p = (p, h.1)
   all_set P (y ∷ xs) (suc i) x h p = (h.0, all_set P xs i x h.1 p)
 
-  pub all_nth : (P : A → Type 0) (xs : List A) (i : ℕ) (x : A) → All P xs → slice_get xs i ≡ Some x → P x
+  pub all_nth : (P : A → Type 0) (xs : List A) (i : ℕ) (x : A) → AllByRecursion P xs → slice_get xs i ≡ Some x → P x
   all_nth P [] i x h e = let z : ◌≡◌ {A = ℕ} 0 1 = cc in absurd (omega arith)
   all_nth P (y ∷ xs) zero x h e = let s : y ≡ x = cc in rw (← s) h.0
   all_nth P (y ∷ xs) (suc i) x h e = all_nth P xs i x h.1 e
@@ -88,7 +88,7 @@ module _ {A : Type 0} where
   nth_there (x ∷ xs) zero l = (x, refl)
   nth_there (x ∷ xs) (suc i) l = nth_there xs i (omega arith)
 
-pub all_map_to : {A B : Type 0} (P : B → Type 0) (f : A → B) (xs : List A) → All (λ a. P (f a)) xs → All P (map f xs)
+pub all_map_to : {A B : Type 0} (P : B → Type 0) (f : A → B) (xs : List A) → AllByRecursion (λ a. P (f a)) xs → AllByRecursion P (map f xs)
 all_map_to P f [] h = tt
 all_map_to P f (x ∷ xs) h = (h.0, all_map_to P f xs h.1)
 

@@ -1,7 +1,7 @@
 -- Nodes within the rules: what a split and a new entry come to.
 use Rattle.std.proofs.Common.{◌≡◌, ℕ, suc, ◌<◌, ◌≤◌, Bool, List, [], ◌∷◌, map, length, Some, refl, ◌∙◌, arith}
 use lib.ListN.{length-map}
-use Rattle.std.specs.List.{AllByRecursion as All}
+use Rattle.std.specs.List.{AllByRecursion}
 use Rattle.key_class.specs.Class.{Growing, Class, Lawful, Shares, staying, going}
 use Rattle.key_class.specs.Joined.{joined as union-all}
 use Rattle.node.specs.Nodes.{Entry, keys, stay, go}
@@ -15,7 +15,7 @@ module _ {K : Type 0} (G : Growing K) where
   -- A node of lo to 12 entries, ruled below.
   pub record Fine (h lo : ℕ) (t : Tree K h) : Type 0 where
     pub size : Between lo 12 (length t.entries)
-    pub below : All (Ruled G h) t.entries
+    pub below : AllByRecursion (Ruled G h) t.entries
 
   -- Entries have a union, the same whatever the key in reserve.
   pub union_there : {L : Type 0} (k : K) (es : List (Entry K L)) → 1 ≤ length es → union-all G (keys es) ≡ Some (union_of G k es)

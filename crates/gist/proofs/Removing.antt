@@ -3,7 +3,7 @@ use Rattle.std.proofs.Common.{◌≡◌, ℕ, zero, suc, ◌+◌, ◌*◌, ◌<�
 use mathlib.Core.List.Perm
 use mathlib.Core.List.{Perm, Nodup, perm_middle, perm_append_comm}
 use Rattle.std.specs.Option.{option_map}
-use Rattle.std.specs.List.{flat_map, insert as with_at, remove as without, AllByRecursion as All, slice_get}
+use Rattle.std.specs.List.{flat_map, insert as with_at, remove as without, AllByRecursion, slice_get}
 use Rattle.std.proofs.lemmas.List.{append-nil}
 use Rattle.std.proofs.lemmas.Bool.{leb-true, leb-false, eqb-true, eq-eqb, and_parts, and_from, both_ways}
 use Rattle.key_class.specs.Class.{Growing, Coded, Class, Lawful}
@@ -25,7 +25,7 @@ use Rattle.gist.proofs.Paged.{perm_cancel, pages_differ}
 module _ {A : Type 0} where
   -- What without_first comes to.
   abbrev Dropped : (A → Bool) → List A → Option (List A) → Type 0
-  Dropped p xs None = All (λ x. p x ≡ false) xs
+  Dropped p xs None = AllByRecursion (λ x. p x ≡ false) xs
   Dropped p xs (Some ys) = (x : A) × (p x ≡ true) × Perm xs (x ∷ ys) × (length xs ≡ suc (length ys))
 
   dropped : (p : A → Bool) (xs : List A) → Dropped p xs (without_first p xs)
@@ -49,13 +49,13 @@ module _ {A : Type 0} where
   length_with (y ∷ xs) zero x = refl
   length_with (y ∷ xs) (suc i) x = ap suc (length_with xs i x)
 
-  all_with : (P : A → Type 0) (xs : List A) (i : ℕ) (x : A) → All P xs → P x → All P (with_at xs i x)
+  all_with : (P : A → Type 0) (xs : List A) (i : ℕ) (x : A) → AllByRecursion P xs → P x → AllByRecursion P (with_at xs i x)
   all_with P [] zero x h p = (p, tt)
   all_with P [] (suc i) x h p = (p, tt)
   all_with P (y ∷ xs) zero x h p = (p, h)
   all_with P (y ∷ xs) (suc i) x h p = (h.0, all_with P xs i x h.1 p)
 
-  all_without : (P : A → Type 0) (xs : List A) (i : ℕ) → All P xs → All P (without xs i)
+  all_without : (P : A → Type 0) (xs : List A) (i : ℕ) → AllByRecursion P xs → AllByRecursion P (without xs i)
   all_without P [] zero h = tt
   all_without P [] (suc i) h = tt
   all_without P (y ∷ xs) zero h = h.1
@@ -66,7 +66,7 @@ module _ {A : Type 0} where
   length_without (y ∷ xs) zero x e = refl
   length_without (y ∷ xs) (suc i) x e = ap suc (length_without xs i x e)
 
-  all_true : (P : A → Type 0) → ((a : A) → P a) → (xs : List A) → All P xs
+  all_true : (P : A → Type 0) → ((a : A) → P a) → (xs : List A) → AllByRecursion P xs
   all_true P f [] = tt
   all_true P f (x ∷ xs) = (f x, all_true P f xs)
 
@@ -140,10 +140,10 @@ module _ {K Q : Type 0} (C : Class K Q) (coded : Coded C.growing) (law : Lawful 
     fewer : Fewer (flat_map (written_at G h) t.entries) (flat_map (written_at G h) u.entries) (2 * h) edits
     at_most : length u.entries ≤ length t.entries
     at_least : length t.entries ≤ length u.entries + 1
-    below : All (Ruled G h) u.entries
+    below : AllByRecursion (Ruled G h) u.entries
 
   abbrev Result : (h : ℕ) → Tree K h → Edits → Option (Tree K h) → Type 0
-  Result h t edits None = All (λ r. is_record G k n r ≡ false) (records_of h t)
+  Result h t edits None = AllByRecursion (λ r. is_record G k n r ≡ false) (records_of h t)
   Result h t edits (Some u) = Lost h t u edits
 
   leaf : (t : Tree K 0) → Result 0 t [] (remove_under C k n 0 t)
@@ -174,14 +174,14 @@ module _ {K Q : Type 0} (C : Class K Q) (coded : Coded C.growing) (law : Lawful 
     fewer : Fewer (flat_map (written_at G (suc h)) es) (flat_map (written_at G (suc h)) us) (2 * suc h) edits
     at_most : length us ≤ length es
     at_least : length es ≤ length us + 1
-    below : All (Ruled G (suc h)) us
+    below : AllByRecursion (Ruled G (suc h)) us
 
   -- The page of a node with its words.
   abbrev own : (h : ℕ) → Tree K h → Written
   own h t = (t.page, words_of G h t) ∷ []
 
   -- Of the entries es, that at place i leads to x now.
-  module _ (h : ℕ) (es : List (Entry K (Tree K h))) (rules : All (Ruled G (suc h)) es) (i : ℕ) (e : Entry K (Tree K h)) (at : slice_get es i ≡ Some e)
+  module _ (h : ℕ) (es : List (Entry K (Tree K h))) (rules : AllByRecursion (Ruled G (suc h)) es) (i : ℕ) (e : Entry K (Tree K h)) (at : slice_get es i ≡ Some e)
       (x : Tree K h) (lost_edits : Edits) (lost : Lost h e.link x lost_edits) where
     abbrev lost_old : List ℕ
     lost_old = lost.fewer.old
@@ -231,7 +231,7 @@ module _ {K Q : Type 0} (C : Class K Q) (coded : Coded C.growing) (law : Lawful 
       f_rule : Ruled G (suc h) f
       f_rule = all_nth _ (without es i) j f (all_without _ es i rules) by
 
-      both_below : All (Ruled G h) both
+      both_below : AllByRecursion (Ruled G h) both
       both_below = all-++ _ f.link.entries x.entries f_rule.2 lost.below
 
       both_length : length both ≡ length f.link.entries + length x.entries
@@ -364,7 +364,7 @@ module _ {K Q : Type 0} (C : Class K Q) (coded : Coded C.growing) (law : Lawful 
 
   -- The first child from which the record could be removed.
   abbrev First : (h : ℕ) → (Tree K h → Option (Tree K h)) → ℕ → List (Entry K (Tree K h)) → Option (ℕ × Tree K h) → Type 0
-  First h below i es None = All (λ e. C.covers e.key k ≡ true → below e.link ≡ None) es
+  First h below i es None = AllByRecursion (λ e. C.covers e.key k ≡ true → below e.link ≡ None) es
   First h below i es (Some c) = (j : ℕ) × (e : Entry K (Tree K h)) × (c.0 ≡ i + j) × (slice_get es j ≡ Some e) × (below e.link ≡ Some c.1)
 
   first : (h : ℕ) (below : Tree K h → Option (Tree K h)) (i : ℕ) (es : List (Entry K (Tree K h))) → First h below i es (first_removed C k h below i es)
@@ -382,7 +382,7 @@ module _ {K Q : Type 0} (C : Class K Q) (coded : Coded C.growing) (law : Lawful 
       step false p s q r f = later r (λ c. absurd (both_ways (C.covers e.key k) p c)) f
 
   -- An entry whose key does not cover k leads to no record of that key.
-  not_below : (h : ℕ) (e : Entry K (Tree K h)) → Ruled G (suc h) e → C.covers e.key k ≡ false → All (λ r. is_record G k n r ≡ false) (records_of h e.link)
+  not_below : (h : ℕ) (e : Entry K (Tree K h)) → Ruled G (suc h) e → C.covers e.key k ≡ false → AllByRecursion (λ r. is_record G k n r ≡ false) (records_of h e.link)
   not_below h e rule c = all_map (λ r d. another r (C.covers e.key) c d) (records_of h e.link) (covers_below C law (suc h) e.key e rule (law.covers_itself e.key))
     where
       another : (r : Entry K ℕ) (p : K → Bool) → p k ≡ false → p r.key ≡ true → is_record G k n r ≡ false
@@ -399,7 +399,7 @@ module _ {K Q : Type 0} (C : Class K Q) (coded : Coded C.growing) (law : Lawful 
   four_root zero m b = omega arith
   four_root (suc h) m b = omega arith
 
-  removes_under : (h : ℕ) (t : Tree K h) → Between (root_least h) 12 (length t.entries) → All (Ruled G h) t.entries → Result h t (edits_under C k n h t) (remove_under C k n h t)
+  removes_under : (h : ℕ) (t : Tree K h) → Between (root_least h) 12 (length t.entries) → AllByRecursion (Ruled G h) t.entries → Result h t (edits_under C k n h t) (remove_under C k n h t)
   removes_under zero t filled rules = leaf t
   removes_under (suc h) t filled rules =
       step (first_removed C k h (remove_under C k n h) 0 t.entries) (first h (remove_under C k n h) 0 t.entries) (λ e rule. removes_under h e.link (four_root h _ rule.1) rule.2)
@@ -413,7 +413,7 @@ module _ {K Q : Type 0} (C : Class K Q) (coded : Coded C.growing) (law : Lawful 
       step None f below = all_joined _ (records_at (suc h)) t.entries (all_map₂ (λ e rule not. by_cover e rule not (C.covers e.key k) refl) t.entries rules f)
         where
           by_cover : (e : Entry K (Tree K h)) → Ruled G (suc h) e → (C.covers e.key k ≡ true → remove_under C k n h e.link ≡ None) →
-              (b : Bool) → C.covers e.key k ≡ b → All (λ r. is_record G k n r ≡ false) (records_of h e.link)
+              (b : Bool) → C.covers e.key k ≡ b → AllByRecursion (λ r. is_record G k n r ≡ false) (records_of h e.link)
           by_cover e rule not true c = subst (Result h e.link (edits_under C k n h e.link)) (not c) (below e rule)
           by_cover e rule not false c = not_below h e rule c
       step (Some c) (j, e, p, sits, is) below = rw place (rebuilt (mends h t.entries rules c.0 e place c.1 (edits_under C k n h e.link) lost filled.0))
@@ -481,7 +481,7 @@ module _ {K Q : Type 0} (C : Class K Q) (coded : Coded C.growing) (law : Lawful 
       ((u.page, None) ∷ edits_under C k n (suc h) t)
       (rw lost.same_page (Perm.trans (Perm.cons _ lost.fewer.edits_are) (Perm.symm (perm_middle (holding lost.fewer.differs.come) (freed lost.fewer.gone)))))
     where
-      rule : All (Ruled G (suc h)) (e ∷ [])
+      rule : AllByRecursion (Ruled G (suc h)) (e ∷ [])
       rule = rw q at lost.below
 
       child : Perm (written_at G (suc h) e) (flat_map (written_at G (suc h)) u.entries)

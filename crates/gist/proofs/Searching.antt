@@ -1,6 +1,6 @@
 -- A search finds what matches.
 use Rattle.std.proofs.Common.{◌≡◌, ℕ, zero, suc, Bool, true, false, cond, List, [], ◌∷◌, Some, None, filter, Option, sym, refl, ◌∙◌, subst}
-use Rattle.std.specs.List.{flat_map, AllByRecursion as All}
+use Rattle.std.specs.List.{flat_map, AllByRecursion}
 use Rattle.key_class.specs.Class.{Class, Lawful}
 use Rattle.key_class.specs.Joined.{joined_onto, joined as union-all}
 use Rattle.node.specs.Nodes.{Entry, keys}
@@ -17,7 +17,7 @@ module _ {K Q : Type 0} (C : Class K Q) (law : Lawful C) where
   onto_covers_first k (x ∷ xs) =
       law.covers_through _ _ _ (onto_covers_first (C.growing.union k x) xs) (law.union_covers_first k x)
 
-  onto_covers : {L : Type 0} (k : K) (es : List (Entry K L)) → All (λ e. C.covers (joined_onto C.growing k (keys es)) e.key ≡ true) es
+  onto_covers : {L : Type 0} (k : K) (es : List (Entry K L)) → AllByRecursion (λ e. C.covers (joined_onto C.growing k (keys es)) e.key ≡ true) es
   onto_covers k [] = tt
   onto_covers k (e ∷ es) = (
     law.covers_through _ _ _ (onto_covers_first (C.growing.union k e.key) (keys es)) (law.union_covers_second k e.key),
@@ -25,13 +25,13 @@ module _ {K Q : Type 0} (C : Class K Q) (law : Lawful C) where
   )
 
   -- The union of some keys covers each.
-  union_covers : {L : Type 0} (k : K) (es : List (Entry K L)) → union-all C.growing (keys es) ≡ Some k → All (λ e. C.covers k e.key ≡ true) es
+  union_covers : {L : Type 0} (k : K) (es : List (Entry K L)) → union-all C.growing (keys es) ≡ Some k → AllByRecursion (λ e. C.covers k e.key ≡ true) es
   union_covers k [] u = tt
-  union_covers {L} k (e ∷ es) u = subst (λ j. All {X = Entry K L} (λ f. C.covers j f.key ≡ true) (e ∷ es)) (some_same u) (onto_covers_first e.key (keys es), onto_covers e.key es)
+  union_covers {L} k (e ∷ es) u = subst (λ j. AllByRecursion {X = Entry K L} (λ f. C.covers j f.key ≡ true) (e ∷ es)) (some_same u) (onto_covers_first e.key (keys es), onto_covers e.key es)
 
   -- Whatever covers an entry's key covers the keys of all records that it leads to.
   pub covers_below : (h : ℕ) (k : K) (e : Entry K (Link K h)) → Ruled C.growing h e → C.covers k e.key ≡ true →
-      All (λ r. C.covers k r.key ≡ true) (records_at h e)
+      AllByRecursion (λ r. C.covers k r.key ≡ true) (records_at h e)
   covers_below zero k e rule c = (c, tt)
   covers_below (suc h) k e rule c =
       all_joined _ (records_at h) e.link.entries

@@ -1,7 +1,7 @@
 -- What is true of the tree, for every key class.
 use Rattle.std.specs.Prelude.{◌≡◌, ℕ, suc, ◌+◌, ◌*◌, ◌≤◌, true, cond, List, ◌∷◌, ◌++◌, map, length, Some, None, filter, Option}
 use mathlib.Core.List.{Perm, Nodup}
-use Rattle.std.specs.List.{AllByRecursion as All}
+use Rattle.std.specs.List.{AllByRecursion}
 use Rattle.page_store.specs.Pages.{Pages, at}
 use Rattle.key_class.specs.Class.{Growing, Class}
 use Rattle.node.specs.Nodes.{Entry}
@@ -51,7 +51,7 @@ pub record TakesRecord {K : Type 0} (G : Growing K) (w z : Gist K) (k : K) (n : 
   pub once : Nodup (pages w) → Nodup (pages z ++ given_back)
 
 abbrev pub Taken : {K : Type 0} → Growing K → Gist K → K → ℕ → Option (Gist K) → Type 0
-Taken G w k n None = All (λ r. (r ≡ record { key = k; link = n }) → ⊥) (records w)
+Taken G w k n None = AllByRecursion (λ r. (r ≡ record { key = k; link = n }) → ⊥) (records w)
 Taken G w k n (Some z) = TakesRecord G w z k n
 
 abbrev pub RemoveTakes : {K Q : Type 0} → Class K Q → Type 0
@@ -63,7 +63,7 @@ SearchFinds {K} {Q} C = (w : Gist K) (q : Q) → PageRules C.growing w → found
 
 -- The tree stands on these pages.
 abbrev pub StandsOn : Pages → Written → Type 0
-StandsOn s ws = All (λ w. at s w.0 ≡ Some w.1) ws
+StandsOn s ws = AllByRecursion (λ w. at s w.0 ≡ Some w.1) ws
 
 -- The words on pages, the root's page and the height fix the tree.
 abbrev pub WordsFix : {K : Type 0} → Growing K → Type 0

@@ -1,7 +1,7 @@
 -- What an insert and a removal write to the pages of a tree, page by page and in order, and the theorems that say it.
 use Rattle.std.specs.Prelude.{◌≡◌, ℕ, zero, suc, Bool, cond, List, [], ◌∷◌, ◌++◌, map, length, Some, None, Option, nat_le}
 use mathlib.Core.List.{Perm}
-use Rattle.std.specs.List.{remove as without, AllByRecursion as All, slice_get}
+use Rattle.std.specs.List.{remove as without, AllByRecursion, slice_get}
 use Rattle.key_class.specs.Class.{Growing, Class}
 use Rattle.node.specs.Nodes.{Entry, keys, stay, go}
 use Rattle.gist.specs.Tree.{Link, Tree, Gist, empty, root, Written, records, words_of, union_of, entry_for}
@@ -114,7 +114,7 @@ pub record TakesEditing {K : Type 0} (G : Growing K) (w z : Gist K) (k : K) (n :
   pub edits_are : Perm edits (holding takes.differ.come ++ freed takes.given_back)
 
 abbrev pub Edited : {K : Type 0} → Growing K → Gist K → K → ℕ → Edits → Option (Gist K) → Type 0
-Edited G w k n edits None = All (λ r. (r ≡ record { key = k; link = n }) → ⊥) (records w)
+Edited G w k n edits None = AllByRecursion (λ r. (r ≡ record { key = k; link = n }) → ⊥) (records w)
 Edited G w k n edits (Some z) = TakesEditing G w z k n edits
 
 abbrev pub RemoveEdits : {K Q : Type 0} → Class K Q → Type 0

@@ -1,7 +1,7 @@
 -- The law of whole histories.
 use Rattle.std.specs.Prelude.{◌≡◌, ℕ, ◌+◌, Bool, true, false, List, [], ◌∷◌, length, Some, None, Option}
 use mathlib.Core.List.{Perm, Nodup}
-use Rattle.std.specs.List.{AllByRecursion as All}
+use Rattle.std.specs.List.{AllByRecursion}
 use Rattle.page_store.specs.Pages.{Pages, free_pages}
 use Rattle.key_class.specs.Class.{Class}
 use Rattle.node.specs.Nodes.{Entry}
@@ -37,7 +37,7 @@ listing m o = record { ledger = m.ledger; tree = m.tree; pages_now = m.pages_now
 pub record Right {K Q : Type 0} (C : Class K Q) (before : Pages) (m : Moment K) : Type 0 where
   pub on : OnPages C.growing before m.pages_now m.tree
   pub same_records : Perm (records m.tree) m.ledger.records
-  pub numbered : All (Between 1 m.ledger.last) (numbers_in m.ledger)
+  pub numbered : AllByRecursion (Between 1 m.ledger.last) (numbers_in m.ledger)
   pub once : Nodup (numbers_in m.ledger)
 
 -- An insert is refused exactly as the questions say, and then nothing changes. Else it answers the next number, and the tree

@@ -1,6 +1,6 @@
 -- The tree that an index stands for.
 use Rattle.std.specs.Prelude.{◌≡◌, ℕ, ◌≤◌, List, map, length}
-use Rattle.std.specs.List.{AllByRecursion as All}
+use Rattle.std.specs.List.{AllByRecursion}
 use Rattle.page_store.specs.Pages.{Pages, free_pages}
 use Rattle.key_class.specs.Class.{Growing}
 use Rattle.gist.specs.Tree.{Gist, records}
@@ -17,7 +17,7 @@ record_numbers w = map (λ r. r.link) (records w)
 pub record StandsFor {K : Type 0} (G : Growing K) (before s : Pages) (f : Shape) (w : Gist K) : Type 0 where
   pub on : OnPages G before s w
   pub starts : StartsAt f.root w
-  pub numbered : All (Between 1 (last_number f)) (record_numbers w)
+  pub numbered : AllByRecursion (Between 1 (last_number f)) (record_numbers w)
   pub counted : f.records ≡ length (records w)
   pub given : length (records w) ≤ last_number f
   pub spare : f.spare ≡ free_pages before

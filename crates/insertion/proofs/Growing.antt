@@ -1,7 +1,7 @@
 -- What an insert under a node comes to on pages: at a leaf, and one level up.
 use Rattle.std.proofs.Common.{◌≡◌, ℕ, zero, suc, ◌+◌, ◌<◌, ◌≤◌, Bool, true, false, cond, leb, ◌≢◌, ◌⊎◌, List, [], ◌∷◌, ◌++◌, map, length, set, is_some, Some, None, Option, sym, refl, ap, ◌∙◌, subst, inl, inr, arith, length-append}
 use mathlib.Core.List.{Nodup, Nodup-nil, Nodup-cons, not-mem-nil, map-append}
-use Rattle.std.specs.List.{AllByRecursion as All, slice_get}
+use Rattle.std.specs.List.{AllByRecursion, slice_get}
 use Rattle.std.proofs.lemmas.List.{append_assoc, append-nil, map-set, get_or-set_same}
 use Rattle.std.proofs.lemmas.Bool.{both_ways, cond-true, cond-false, le-leb, lt-leb}
 use Rattle.page_store.specs.Pages.{Pages, Words, at, free_pages}
@@ -37,7 +37,7 @@ module _ {K Q : Type 0} (C : Class K Q) where
     pub is : (more : List ℕ) → fill C h (taken ++ more) p es ≡ record { node = node; split_off = split_off; unused = more }
     pub pages : t ≡ over s (own_pages G h (record { node = node; split_off = split_off; unused = [] }))
     pub fresh : Fresh s taken
-    pub held : All (Held t) taken
+    pub held : AllByRecursion (Held t) taken
     pub left : free_pages t + length taken ≡ free_pages s
     pub told : entries_told p c ≡ on_page (suc h) (map (entry_for G h k) (node ∷ split_off))
 
@@ -135,7 +135,7 @@ module _ {K Q : Type 0} (C : Class K Q) where
       }
 
   -- Pages taken one after the other.
-  pub fresh_both : (s : Pages) (ws : Written) (xs ys : List ℕ) → Fresh s xs → All (Held (over s ws)) xs → Fresh (over s ws) ys → Fresh s (xs ++ ys)
+  pub fresh_both : (s : Pages) (ws : Written) (xs ys : List ℕ) → Fresh s xs → AllByRecursion (Held (over s ws)) xs → Fresh (over s ws) ys → Fresh s (xs ++ ys)
   fresh_both s ws xs ys f h g = record {
     free = all-++ (Free s) xs ys f.free (all_map (λ p x. (omega (arith, length_over s ws, x.0), over_none s ws p x.1)) ys g.free);
     once = once_both (Held (over s ws)) (Free (over s ws)) (λ p x y. both_ways (is_some (at (over s ws) p)) (ap is_some y.1) x) xs ys h g.free f.once g.once;
@@ -189,7 +189,7 @@ module _ {K Q : Type 0} (C : Class K Q) where
             ∙ ap (λ (fs : List ℕ). over s (own_pages G (suc h) (record { node = x.node; split_off = x.split_off; unused = more }) ++ writes_under C k n h fs e.link)) (sym (append_assoc below.taken x.taken more))
             ∙ ap (λ (r : Grown K (suc h)). over s (own_pages G (suc h) r ++ writes_under C k n h ((below.taken ++ x.taken) ++ more) e.link)) (sym (is more))
             ∙ ap (over s) (sym (writes_up ((below.taken ++ x.taken) ++ more)));
-        fresh = subst (λ (p : Pages). All (Held p) below.taken → Fresh p x.taken → Fresh s (below.taken ++ x.taken)) (sym (below.pages []))
+        fresh = subst (λ (p : Pages). AllByRecursion (Held p) below.taken → Fresh p x.taken → Fresh s (below.taken ++ x.taken)) (sym (below.pages []))
             (λ a b. fresh_both s (writes_under C k n h (below.taken ++ []) e.link) below.taken x.taken below.fresh a b) below.held x.fresh;
         held = all-++ (Held t) below.taken x.taken
             (all_map (λ p y. subst (λ (q : Pages). Held q p) (sym x.pages) (over_held m (own_pages G (suc h) (record { node = x.node; split_off = x.split_off; unused = [] })) p y)) below.taken below.held) x.held;

@@ -3,7 +3,7 @@ use Rattle.std.proofs.Common.{◌≡◌, ℕ, zero, suc, ◌+◌, ◌<◌, ◌�
 use mathlib.Core.List.{Nodup, Nodup-nil, Nodup-cons, not-mem-nil}
 use lib.ListN.{length-map}
 use Rattle.std.specs.Option.{ok_or}
-use Rattle.std.specs.List.{AllByRecursion as All}
+use Rattle.std.specs.List.{AllByRecursion}
 use Rattle.std.proofs.lemmas.List.{append-nil, nil_from_length}
 use Rattle.std.proofs.lemmas.Bool.{cond-true, cond-false, le-leb, lt-leb, eqb-true, leb-false, and_cases}
 use Rattle.page_store.specs.Pages.{Pages, Words, at, free_pages}
@@ -180,7 +180,7 @@ module _ {K Q : Type 0} (C : Class K Q) (law : Lawful C) (KG : Growing K) (tied 
         one_told = sym rest_length ∙ ap (λ (o : Option (Child K)). length (split_entry o)) two
 
         fresh : Fresh s (x.taken ++ q ∷ [])
-        fresh = subst (λ (p : Pages). All (λ y. is_some (at p y) ≡ true) x.taken → Fresh p (q ∷ []) → Fresh s (x.taken ++ q ∷ [])) (sym (x.pages []))
+        fresh = subst (λ (p : Pages). AllByRecursion (λ y. is_some (at p y) ≡ true) x.taken → Fresh p (q ∷ []) → Fresh s (x.taken ++ q ∷ [])) (sym (x.pages []))
             (λ a b. fresh_both C s (writes_under C k n h (x.taken ++ []) u) x.taken (q ∷ []) x.fresh a b) x.held
             (record { free = ((took.within, took.was_free), tt); once = once_one q })
 

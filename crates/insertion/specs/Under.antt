@@ -1,6 +1,6 @@
 -- What an insert under a node does to the pages.
 use Rattle.std.specs.Prelude.{◌≡◌, ℕ, suc, ◌+◌, true, List, [], ◌∷◌, ◌++◌, map, length, is_some, Some, None, Ok, Err, Result}
-use Rattle.std.specs.List.{AllByRecursion as All}
+use Rattle.std.specs.List.{AllByRecursion}
 use Rattle.page_store.specs.Pages.{Pages, at, free_pages}
 use Rattle.key_class.specs.Class.{Class}
 use Rattle.node.specs.Nodes.{Entry}
@@ -28,7 +28,7 @@ pub record Inserted {K Q : Type 0} (C : Class K Q) (s t : Pages) (k : K) (n h : 
   pub is : (more : List ℕ) → insert_under C k n h (taken ++ more) u ≡ record { node = node; split_off = split_off; unused = more }
   pub pages : (more : List ℕ) → t ≡ over s (writes_under C k n h (taken ++ more) u)
   pub fresh : Fresh s taken
-  pub held : All (λ p. is_some (at t p) ≡ true) taken
+  pub held : AllByRecursion (λ p. is_some (at t p) ≡ true) taken
   pub left : free_pages t + length taken ≡ free_pages s
   pub told : entries_told u.page c ≡ on_page (suc h) (map (entry_for C.growing h k) (node ∷ split_off))
 

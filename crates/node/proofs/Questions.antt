@@ -2,7 +2,7 @@
 use Rattle.std.proofs.Common.{◌≡◌, ℕ, zero, suc, ◌+◌, ◌-◌, ◌*◌, ◌<◌, Bool, true, false, ◌&&◌, eqb, leb, List, [], ◌∷◌, ◌++◌, map, length, get_or, take, drop, replicate, is_some, Some, None, Option, sym, refl, ap, ◌∙◌, arith, length-drop}
 use lib.ListN.{length-map}
 use Rattle.std.specs.Option.{option_map}
-use Rattle.std.specs.List.{flat_map, AllByRecursion as All}
+use Rattle.std.specs.List.{flat_map, AllByRecursion}
 use Rattle.std.proofs.lemmas.List.{take_all, take_more, drop_more}
 use Rattle.std.proofs.lemmas.Bool.{false≢true, eqb-true, leb-true, le-leb, and_parts, and_from}
 use Rattle.key_class.specs.Class.{Growing, Coded}
@@ -71,20 +71,20 @@ joined_map : {X : Type 0} (f : X → List ℕ) (xs : List X) → flat_map f xs �
 joined_map f [] = refl
 joined_map f (x ∷ xs) = ap (λ u. f x ++ u) (joined_map f xs)
 
-entry_links : {K : Type 0} (G : Growing K) (level : ℕ) (rs : List (List ℕ)) → every (λ r. link_fits level (get_or r 4 0)) rs ≡ true → All (λ e. link_fits level e.link ≡ true) (entries_in G rs)
+entry_links : {K : Type 0} (G : Growing K) (level : ℕ) (rs : List (List ℕ)) → every (λ r. link_fits level (get_or r 4 0)) rs ≡ true → AllByRecursion (λ e. link_fits level e.link ≡ true) (entries_in G rs)
 entry_links G level [] h = tt
 entry_links {K} G level (r ∷ rs) h =
     let p = and_parts (link_fits level (get_or r 4 0)) (every (λ s. link_fits level (get_or s 4 0)) rs) h in
     go (G.unsqueeze (take 4 r)) p.0 (entry_links G level rs p.1)
   where
-    go : (o : Option K) → link_fits level (get_or r 4 0) ≡ true → All (λ e. link_fits level e.link ≡ true) (entries_in G rs)
-        → All (λ e. link_fits level e.link ≡ true) (with_key (option_map (λ k. record { key = k; link = get_or r 4 0 }) o) (entries_in G rs))
+    go : (o : Option K) → link_fits level (get_or r 4 0) ≡ true → AllByRecursion (λ e. link_fits level e.link ≡ true) (entries_in G rs)
+        → AllByRecursion (λ e. link_fits level e.link ≡ true) (with_key (option_map (λ k. record { key = k; link = get_or r 4 0 }) o) (entries_in G rs))
     go None here ih = ih
     go (Some k) here ih = (here, ih)
 
 module _ {K : Type 0} {G : Growing K} (C : Coded G) where
   -- The words of the entries read are the rows.
-  rows_back : (rs : List (List ℕ)) → All (λ r. length r ≡ 5) rs → every (λ r. is_some (G.unsqueeze (take 4 r))) rs ≡ true → map (entry_words G) (entries_in G rs) ≡ rs
+  rows_back : (rs : List (List ℕ)) → AllByRecursion (λ r. length r ≡ 5) rs → every (λ r. is_some (G.unsqueeze (take 4 r))) rs ≡ true → map (entry_words G) (entries_in G rs) ≡ rs
   rows_back [] five h = refl
   rows_back (r ∷ rs) five h =
       let p = and_parts (is_some (G.unsqueeze (take 4 r))) (every (λ s. is_some (G.unsqueeze (take 4 s))) rs) h in
@@ -115,7 +115,7 @@ module _ {K : Type 0} {G : Growing K} (C : Coded G) where
       (ap (λ u. is_some (G.unsqueeze u)) (key_part C e) ∙ ap is_some (C.round_trip e.key))
       (every_key es)
 
-  every_link : (level : ℕ) (es : List (Entry K ℕ)) → All (λ e. link_fits level e.link ≡ true) es → every (λ r. link_fits level (get_or r 4 0)) (map (entry_words G) es) ≡ true
+  every_link : (level : ℕ) (es : List (Entry K ℕ)) → AllByRecursion (λ e. link_fits level e.link ≡ true) es → every (λ r. link_fits level (get_or r 4 0)) (map (entry_words G) es) ≡ true
   every_link level [] h = refl
   every_link level (e ∷ es) h =
       and_from (link_fits level (get_or (entry_words G e) 4 0)) (every (λ r. link_fits level (get_or r 4 0)) (map (entry_words G) es))
@@ -134,7 +134,7 @@ module _ {K : Type 0} {G : Growing K} (C : Coded G) where
       let few = leb-true n 12 ct.1 in
       let rest = and_parts (eqb (get_or w 2 0) 0 && eqb (get_or w 3 0) 0) (every (λ x. eqb x 0) (drop (4 + 5 * n) w)) f.rest in
       let two = and_parts (eqb (get_or w 2 0) 0) (eqb (get_or w 3 0) 0) rest.0 in
-      let five : All (λ r. length r ≡ 5) (rows w) = all_fives n (drop 4 w) (omega (arith, length-drop 4 w)) in
+      let five : AllByRecursion (λ r. length r ≡ 5) (rows w) = all_fives n (drop 4 w) (omega (arith, length-drop 4 w)) in
       let back : map (entry_words G) es ≡ rows w = rows_back (rows w) five f.keys in
       let many : length es ≡ n = sym (length-map es (entry_words G)) ∙ ap length back ∙ length_groups n (drop 4 w) in
       let page = page_is w (omega arith) (eqb-true (get_or w 2 0) 0 two.0) (eqb-true (get_or w 3 0) 0 two.1) in

@@ -1,6 +1,6 @@
 -- How the rows of five words lie in a page, and what the words of a node are made of.
 use Rattle.std.proofs.Common.{◌≡◌, ℕ, zero, suc, ◌+◌, ◌-◌, ◌*◌, ◌<◌, ◌≤◌, List, [], ◌∷◌, ◌++◌, map, length, get_or, take, drop, replicate, sym, refl, ap, ◌∙◌, append_assoc, arith, length-append, length-drop}
-use Rattle.std.specs.List.{flat_map, AllByRecursion as All}
+use Rattle.std.specs.List.{flat_map, AllByRecursion}
 use Rattle.std.proofs.lemmas.List.{take-append-drop, take_at, drop_at, drop-drop, drop_more, length-take-le, get_or_at}
 use Rattle.key_class.specs.Class.{Growing, Coded}
 use Rattle.node.specs.Nodes.{Entry, entry_words, node_words}
@@ -51,7 +51,7 @@ pub length_groups : (n : ℕ) (v : List ℕ) → length (groups n v) ≡ n
 length_groups zero v = refl
 length_groups (suc n) v = ap suc (length_groups n (drop 5 v))
 
-pub all_fives : (n : ℕ) (v : List ℕ) → 5 * n ≤ length v → All (λ r. length r ≡ 5) (groups n v)
+pub all_fives : (n : ℕ) (v : List ℕ) → 5 * n ≤ length v → AllByRecursion (λ r. length r ≡ 5) (groups n v)
 all_fives zero v l = tt
 all_fives (suc n) v l = (length-take-le 5 v (omega arith), all_fives n (drop 5 v) (omega (arith, length-drop 5 v)))
 

@@ -1,6 +1,6 @@
 -- Nodes: a level and entries, and the 64 words that they lie in.
 use Rattle.std.specs.Prelude.{◌≡◌, ℕ, ◌-◌, ◌*◌, ◌≤◌, Bool, true, false, cond, List, [], ◌∷◌, ◌++◌, map, length, replicate, ◌==◌, nat_lt}
-use Rattle.std.specs.List.{flat_map, AllByRecursion as All}
+use Rattle.std.specs.List.{flat_map, AllByRecursion}
 pub use Rattle.std.specs.List.{remove as without}
 use Rattle.key_class.specs.Class.{Growing}
 
@@ -28,7 +28,7 @@ pub record IsNode {K : Type 0} (level : ℕ) (es : List (Entry K ℕ)) : Type 0 
   pub high : level ≤ 7
   pub some : 1 ≤ length es
   pub few : length es ≤ 12
-  pub links : All (λ e. link_fits level e.link ≡ true) es
+  pub links : AllByRecursion (λ e. link_fits level e.link ≡ true) es
 
 -- By marks, of which true is for an entry that goes: those that stay, and those that go, both in order.
 abbrev pub stay : {A : Type 0} → List Bool → List A → List A

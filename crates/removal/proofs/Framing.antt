@@ -1,7 +1,7 @@
 -- Which pages a removal edits, and what comes of a node's page number and its count of entries.
 use Rattle.std.proofs.Common.{◌≡◌, ℕ, zero, suc, ◌+◌, ◌<◌, ◌≤◌, Bool, true, false, cond, leb, ◌≢◌, List, [], ◌∷◌, ◌++◌, length, set, Some, None, Option, sym, refl, ap, ◌∙◌, subst, arith, length-set}
 use Rattle.std.specs.Option.{option_map}
-use Rattle.std.specs.List.{flat_map, insert as with_at, remove as without, AllByRecursion as All, slice_get}
+use Rattle.std.specs.List.{flat_map, insert as with_at, remove as without, AllByRecursion, slice_get}
 use Rattle.std.proofs.lemmas.List.Edits.{length-insert, length-remove}
 use Rattle.std.proofs.lemmas.List.{get_or-set_other}
 use Rattle.page_store.specs.Pages.{Pages, at}
@@ -15,7 +15,7 @@ use Rattle.gist.specs.Writes.{below_by, Edits, join_edits, mend_edits, edits_by,
 use Rattle.gist.proofs.Lists.{all-++, all_right, all_nth, joined_all}
 use Rattle.tree_pages.specs.Laid.{edited}
 
-all_cond : {A : Type 0} (P : A → Type 0) (b : Bool) (xs ys : List A) → All P xs → All P ys → All P (cond b xs ys)
+all_cond : {A : Type 0} (P : A → Type 0) (b : Bool) (xs ys : List A) → AllByRecursion P xs → AllByRecursion P ys → AllByRecursion P (cond b xs ys)
 all_cond P true xs ys h k = h
 all_cond P false xs ys h k = k
 
@@ -24,7 +24,7 @@ nth_within [] i x e = absurd (none_some e)
 nth_within (y ∷ xs) zero x e = omega arith
 nth_within (y ∷ xs) (suc i) x e = let l = nth_within xs i x e in omega arith
 
-pub all_without : {A : Type 0} (P : A → Type 0) (xs : List A) (i : ℕ) → All P xs → All P (without xs i)
+pub all_without : {A : Type 0} (P : A → Type 0) (xs : List A) (i : ℕ) → AllByRecursion P xs → AllByRecursion P (without xs i)
 all_without P [] zero h = tt
 all_without P [] (suc i) h = tt
 all_without P (y ∷ xs) zero h = h.1
@@ -38,7 +38,7 @@ still_long false es i j x y z l =
     omega (arith, length-remove es i l, length-insert (set (without es i) j y) i z (omega (arith, length-remove es i l)))
 
 -- A page that is not edited.
-pub edited_other : (s : Pages) (ws : Edits) (p : ℕ) → All (λ w. p ≢ w.0) ws → at (edited s ws) p ≡ at s p
+pub edited_other : (s : Pages) (ws : Edits) (p : ℕ) → AllByRecursion (λ w. p ≢ w.0) ws → at (edited s ws) p ≡ at s p
 edited_other s [] p a = refl
 edited_other s (w ∷ ws) p a = get_or-set_other (edited s ws) w.0 p w.1 None a.0 ∙ edited_other s ws p a.1
 
@@ -121,32 +121,32 @@ module _ {K Q : Type 0} (C : Class K Q) (k : K) where
 
     -- Only pages below the node are edited.
     module _ (P : ℕ → Type 0) where
-      below_pages : (h : ℕ) (es : List (Entry K (Tree K h))) → All P (flat_map (pages_at (suc h)) es) → All (λ e. P e.link.page) es
+      below_pages : (h : ℕ) (es : List (Entry K (Tree K h))) → AllByRecursion P (flat_map (pages_at (suc h)) es) → AllByRecursion (λ e. P e.link.page) es
       below_pages h [] a = tt
       below_pages h (e ∷ es) a = (a.0, below_pages h es (all_right P (flat_map (pages_at h) e.link.entries) (flat_map (pages_at (suc h)) es) a.1))
 
-      join_pages : (h : ℕ) (x : Tree K h) (o : Option (Entry K (Tree K h))) → P x.page → ((f : Entry K (Tree K h)) → o ≡ Some f → P f.link.page) → All (λ w. P w.0) (join_edits C h x o)
+      join_pages : (h : ℕ) (x : Tree K h) (o : Option (Entry K (Tree K h))) → P x.page → ((f : Entry K (Tree K h)) → o ≡ Some f → P f.link.page) → AllByRecursion (λ w. P w.0) (join_edits C h x o)
       join_pages h x None own other = tt
       join_pages h x (Some f) own other = all_cond _ (leb (length (f.link.entries ++ x.entries)) 12) _ _ (own, (other f refl, tt)) (own, (other f refl, tt))
 
-      mend_pages : (h : ℕ) (es : List (Entry K (Tree K h))) (i : ℕ) (x : Tree K h) → P x.page → All (λ e. P e.link.page) es → All (λ w. P w.0) (mend_edits C h k es i x)
+      mend_pages : (h : ℕ) (es : List (Entry K (Tree K h))) (i : ℕ) (x : Tree K h) → P x.page → AllByRecursion (λ e. P e.link.page) es → AllByRecursion (λ w. P w.0) (mend_edits C h k es i x)
       mend_pages h es i x own all =
           all_cond _ (leb 4 (length x.entries)) _ _ (own, tt)
           (join_pages h x (slice_get (without es i) (least_growth C.growing (union_of C.growing k x.entries) (without es i))) own
           (λ f e. all_nth (λ (y : Entry K (Tree K h)). P y.link.page) (without es i) _ f (all_without _ es i all) e))
 
-      pub edits_below : (h : ℕ) (u : Tree K h) → All P (flat_map (pages_at h) u.entries) → All (λ w. P w.0) (edits_under C k n h u)
+      pub edits_below : (h : ℕ) (u : Tree K h) → AllByRecursion P (flat_map (pages_at h) u.entries) → AllByRecursion (λ w. P w.0) (edits_under C k n h u)
       edits_below zero u a = tt
       edits_below (suc h) u a = step (first_removed C k h (remove_under C k n h) 0 u.entries) (found h (remove_under C k n h) 0 u.entries) (λ e b. edits_below h e.link b)
         where
           step : (o : Option (ℕ × Tree K h)) → Found h (remove_under C k n h) 0 u.entries o
-              → ((e : Entry K (Tree K h)) → All P (flat_map (pages_at h) e.link.entries) → All (λ w. P w.0) (edits_under C k n h e.link))
-              → All (λ w. P w.0) (edits_by h (λ i x. mend_edits C h k u.entries i x ++ below_by h (edits_under C k n h) (slice_get u.entries i)) o)
+              → ((e : Entry K (Tree K h)) → AllByRecursion P (flat_map (pages_at h) e.link.entries) → AllByRecursion (λ w. P w.0) (edits_under C k n h e.link))
+              → AllByRecursion (λ w. P w.0) (edits_by h (λ i x. mend_edits C h k u.entries i x ++ below_by h (edits_under C k n h) (slice_get u.entries i)) o)
           step None d below = tt
           step (Some c) (j, e, p, q, r) below =
               let i_is : c.0 ≡ j = omega arith in
               let there : slice_get u.entries c.0 ≡ Some e = ap (slice_get u.entries) i_is ∙ q in
-              let all : All P (pages_at (suc h) e) = all_nth (λ (y : Entry K (Tree K h)). All P (pages_at (suc h) y)) u.entries c.0 e (joined_all P (pages_at (suc h)) u.entries a) there in
+              let all : AllByRecursion P (pages_at (suc h) e) = all_nth (λ (y : Entry K (Tree K h)). AllByRecursion P (pages_at (suc h) y)) u.entries c.0 e (joined_all P (pages_at (suc h)) u.entries a) there in
               all-++ _ (mend_edits C h k u.entries c.0 c.1) _
               (mend_pages h u.entries c.0 c.1 (subst P (sym (same_page h e.link c.1 r)) all.0) (below_pages h u.entries a))
-              (subst (λ (o : Option (Entry K (Tree K h))). All (λ w. P w.0) (below_by h (edits_under C k n h) o)) (sym there) (below e all.1))
+              (subst (λ (o : Option (Entry K (Tree K h))). AllByRecursion (λ w. P w.0) (below_by h (edits_under C k n h) o)) (sym there) (below e all.1))

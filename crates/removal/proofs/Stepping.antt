@@ -4,7 +4,7 @@ use mathlib.Core.List.Memᴰ
 use mathlib.Core.List.Perm
 use mathlib.Core.List.{Mem, mem-cons_of_mem, mem-append_right, Nodup, Nodup-cons, Nodup-append}
 use Rattle.std.specs.Option.{option_map, ok_or}
-use Rattle.std.specs.List.{flat_map, AllByRecursion as All, slice_get}
+use Rattle.std.specs.List.{flat_map, AllByRecursion, slice_get}
 use Rattle.std.proofs.lemmas.List.{drop_all}
 use Rattle.std.proofs.lemmas.Bool.{true≢false}
 use Rattle.page_store.specs.Pages.{Pages, at}
@@ -43,7 +43,7 @@ on_leaf {K} (e ∷ es) = ap {B = List (Entry K ℕ)} (λ r. e ∷ r) (on_leaf es
 -- Pages that stand once: those of a node, and those of its others.
 module _ {K : Type 0} (h : ℕ) where
   apart_from : (below : List ℕ) (fs : List (Entry K (Tree K h))) → ((a : ℕ) → Mem a below → Mem a (flat_map (pages_at (suc h)) fs) → ⊥)
-      → All (λ f. All (λ p. f.link.page ≢ p) below) fs
+      → AllByRecursion (λ f. AllByRecursion (λ p. f.link.page ≢ p) below) fs
   apart_from below [] none = tt
   apart_from below (f ∷ fs) none = (
     all_from_mem _ below (λ a m e. none a m ∣ Memᴰ.head (sym e) ∣₁),
@@ -58,10 +58,10 @@ module _ {K : Type 0} (h : ℕ) where
     pub once_below : Nodup (pages_of h e.link)
     once_below = (Nodup-append.0 beside).0
 
-    pub own_apart : All (λ p. e.link.page ≢ p) (flat_map (pages_at h) e.link.entries)
+    pub own_apart : AllByRecursion (λ p. e.link.page ≢ p) (flat_map (pages_at h) e.link.entries)
     own_apart = first_apart e.link.page (flat_map (pages_at h) e.link.entries) once_below
 
-    pub others_apart : All (λ f. All (λ p. f.link.page ≢ p) (flat_map (pages_at h) e.link.entries)) (without u.entries i)
+    pub others_apart : AllByRecursion (λ f. AllByRecursion (λ p. f.link.page ≢ p) (flat_map (pages_at h) e.link.entries)) (without u.entries i)
     others_apart = apart_from (flat_map (pages_at h) e.link.entries) (without u.entries i) (λ a m l. (Nodup-append.0 beside).2 a (mem-cons_of_mem e.link.page m) l)
 
 four_least : (h m : ℕ) → 4 ≤ m → root_least h ≤ m
@@ -239,13 +239,13 @@ module _ {K Q : Type 0} (C : Class K Q) (s : Pages) (node : Node) (level : ℕ) 
           pages_are = lost.pages ∙ ap (λ (z : Pages). edited z (edits_under C k n h e.link)) (look.says h u so st lev).0
 
           -- What is not below the child is as it was.
-          unchanged : (q : ℕ) → All (λ a. q ≢ a) (flat_map (pages_at h) e.link.entries) → at m q ≡ at s q
+          unchanged : (q : ℕ) → AllByRecursion (λ a. q ≢ a) (flat_map (pages_at h) e.link.entries) → at m q ≡ at s q
           unchanged q a = ap (λ (z : Pages). at z q) pages_are ∙ edited_other s (edits_under C k n h e.link) q (edits_below C k n (λ b. q ≢ b) h e.link a)
 
           ruled : Ruled N (suc h) e
           ruled = all_nth (Ruled N (suc h)) u.entries i e so.lies.below there
 
-          words_there : All (λ f. StandsOn s (written_at N (suc h) f)) u.entries
+          words_there : AllByRecursion (λ f. StandsOn s (written_at N (suc h) f)) u.entries
           words_there = joined_all _ (written_at N (suc h)) u.entries so.lies.words.1
 
           abbrev On : Pages → Entry K (Tree K h) → Type 0
@@ -261,7 +261,7 @@ module _ {K Q : Type 0} (C : Class K Q) (s : Pages) (node : Node) (level : ℕ) 
             within = omega (arith, inside, count h u st);
             more = so.least;
             some = omega (arith, one_fewer C k n h e.link lost.node lost.is, ruled.1);
-            stand = all_map₂ (λ (f : Entry K (Tree K h)) (a : On s f) (b : All (λ q. f.link.page ≢ q) (flat_map (pages_at h) e.link.entries)). (unchanged f.link.page b ∙ a.0, a.1)) (without u.entries i)
+            stand = all_map₂ (λ (f : Entry K (Tree K h)) (a : On s f) (b : AllByRecursion (λ q. f.link.page ≢ q) (flat_map (pages_at h) e.link.entries)). (unchanged f.link.page b ∙ a.0, a.1)) (without u.entries i)
                 (all_without (On s) u.entries i (all_map₂ (λ (f : Entry K (Tree K h)) (a : StandsOn s (written_at N (suc h) f)) (b : Ruled N (suc h) f). (a.0, b.1.1)) u.entries words_there so.lies.below))
                 (others_apart h u i e there so.once);
           }

@@ -1,6 +1,6 @@
 -- What is done to the pages of a node's children once one of them has lost an entry.
 use Rattle.std.specs.Prelude.{◌≡◌, ℕ, suc, ◌+◌, ◌<◌, ◌≤◌, true, List, [], ◌∷◌, ◌++◌, length, is_some, Some, None, Option}
-use Rattle.std.specs.List.{AllByRecursion as All}
+use Rattle.std.specs.List.{AllByRecursion}
 use Rattle.page_store.specs.Pages.{Pages, at}
 use Rattle.key_class.specs.Class.{Growing, Class}
 use Rattle.key_class.specs.Joined.{joined}
@@ -43,7 +43,7 @@ pub record Changed {K : Type 0} (G : Growing K) (s : Pages) (n : Node) (i p : �
   pub within : i < length u.entries
   pub more : 2 ≤ length u.entries
   pub some : 1 ≤ length v.entries
-  pub stand : All (λ e. (at s e.link.page ≡ Some (words_of G h e.link)) × (length e.link.entries ≤ 12)) (without u.entries i)
+  pub stand : AllByRecursion (λ e. (at s e.link.page ≡ Some (words_of G h e.link)) × (length e.link.entries ≤ 12)) (without u.entries i)
 
 -- The node has the entries es, and the pages have the edits.
 abbrev pub Became : {K : Type 0} → Growing K → Pages → Pages → (h : ℕ) → List (Entry K (Link K h)) → Edits → Option Node → Type 0

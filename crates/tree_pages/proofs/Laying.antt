@@ -2,7 +2,7 @@
 use Rattle.std.proofs.Common.{◌≡◌, ℕ, ◌+◌, ◌<◌, ◌≢◌, List, [], ◌∷◌, ◌++◌, map, length, set, is_some, Some, None, Option, sym, refl, ap, ◌∙◌, arith}
 use mathlib.Core.List.Perm
 use mathlib.Core.List.{map-append, Mem, Memᴰ, mem-cons_of_mem, mem-append_left, Nodup, Nodup-cons, Nodup-append, Perm}
-use Rattle.std.specs.List.{AllByRecursion as All}
+use Rattle.std.specs.List.{AllByRecursion}
 use Rattle.std.proofs.lemmas.List.{append-nil, get_or-set_same, get_or-set_other, set-get_or}
 use Rattle.page_store.specs.Pages.{Pages, Words, at, free_pages}
 use Rattle.page_store.proofs.Calling.{Held}
@@ -27,7 +27,7 @@ pub places_holding : (ws : Written) → places (holding ws) ≡ numbers ws
 places_holding [] = refl
 places_holding (w ∷ ws) = ap {B = List ℕ} (λ ps. w.0 ∷ ps) (places_holding ws)
 
-pub all_from_mem : {A : Type 0} (P : A → Type 0) (xs : List A) → ((a : A) → Mem a xs → P a) → All P xs
+pub all_from_mem : {A : Type 0} (P : A → Type 0) (xs : List A) → ((a : A) → Mem a xs → P a) → AllByRecursion P xs
 all_from_mem P [] f = tt
 all_from_mem P (x ∷ xs) f = (f x ∣ Memᴰ.head refl ∣₁, all_from_mem P xs (λ a m. f a (mem-cons_of_mem x m)))
 
@@ -37,13 +37,13 @@ places_edits [] (p ∷ ps) = ap {B = List ℕ} (λ r. p ∷ r) (places_edits [] 
 places_edits (w ∷ ws) ps = ap {B = List ℕ} (λ r. w.0 ∷ r) (places_edits ws ps)
 
 -- To give back what was free is no change.
-freed_free : (s : Pages) (ps : List ℕ) → All (λ p. at s p ≡ None) ps → sets s (freed ps) ≡ s
+freed_free : (s : Pages) (ps : List ℕ) → AllByRecursion (λ p. at s p ≡ None) ps → sets s (freed ps) ≡ s
 freed_free s [] a = refl
 freed_free s (p ∷ ps) a = ap (λ (t : Pages). set t p None) (freed_free s ps a.1) ∙ ap (set s p) (sym a.0) ∙ set-get_or s p None
 
 module _ (s : Pages) (first second : Written) {old new : List ℕ} (d : Differ first second old new) where
   -- What was written again and given back, over what was there before, is the second laid down alone.
-  laid_again : (back : List ℕ) → All (λ p. Mem p (numbers d.come ++ back)) (numbers d.gone) → All (λ p. at s p ≡ None) back
+  laid_again : (back : List ℕ) → AllByRecursion (λ p. Mem p (numbers d.come ++ back)) (numbers d.gone) → AllByRecursion (λ p. at s p ≡ None) back
       → Nodup (numbers first) → Nodup (numbers second ++ back) → sets (over s first) (holding d.come ++ freed back) ≡ over s second
   laid_again back inside free n m =
       ap (λ (t : Pages). sets t edits) (over_sets s first ∙ sets_perm pages_set s (map_perm _ d.first_is) (rw places_holding n) ∙ ap (sets s) (map-append _ d.gone d.kept))
@@ -63,7 +63,7 @@ module _ (s : Pages) (first second : Written) {old new : List ℕ} (d : Differ f
           (Perm.nodup (Perm.append_right back (map_perm _ d.second_is)) m)
 
   -- The same by edits, in any order, that give back the rest of the old pages.
-  pub relaid_by : (back : List ℕ) (edits : Edits) → Perm old (new ++ back) → Perm edits (holding d.come ++ freed back) → All (λ p. at s p ≡ None) back
+  pub relaid_by : (back : List ℕ) (edits : Edits) → Perm old (new ++ back) → Perm edits (holding d.come ++ freed back) → AllByRecursion (λ p. at s p ≡ None) back
       → Nodup (numbers first) → Nodup (numbers second ++ back) → sets (over s first) edits ≡ over s second
   relaid_by back edits split are free n m =
       sym (sets_perm pages_set (over s first) (Perm.symm are) (rw (places_edits d.come back) (Perm.nodup touched once_gone)))
@@ -82,18 +82,18 @@ relaid s first second ps fs d n m =
     over_sets (over s first) d.come ∙ ap (sets (over s first)) (sym (append-nil (holding d.come)))
     ∙ laid_again s first second d [] (rw append-nil inside) tt n (rw append-nil m)
   where
-    inside : All (λ p. Mem p (numbers d.come)) (numbers d.gone)
+    inside : AllByRecursion (λ p. Mem p (numbers d.come)) (numbers d.gone)
     inside = all_from_mem _ (numbers d.gone) (λ p x. (Perm.mem_iff d.come_to).1 (mem-append_left fs ((Perm.mem_iff d.gone_from).0 x)))
 
 -- The pages that were written have their words.
-pub stands_over : (s : Pages) (ws : Written) → Nodup (numbers ws) → All (λ p. p < length s) (numbers ws) → StandsOn (over s ws) ws
+pub stands_over : (s : Pages) (ws : Written) → Nodup (numbers ws) → AllByRecursion (λ p. p < length s) (numbers ws) → StandsOn (over s ws) ws
 stands_over s [] n l = tt
 stands_over s (w ∷ ws) n l = (
   get_or-set_same (over s ws) w.0 (Some w.1) None (omega (arith, length_over s ws, l.0)),
   all_numbers ws (first_apart w.0 (numbers ws) n) (stands_over s ws (Nodup-cons.0 n).1 l.1),
 )
   where
-    all_numbers : (vs : Written) → All (λ q. w.0 ≢ q) (numbers vs) → StandsOn (over s ws) vs → StandsOn (set (over s ws) w.0 (Some w.1)) vs
+    all_numbers : (vs : Written) → AllByRecursion (λ q. w.0 ≢ q) (numbers vs) → StandsOn (over s ws) vs → StandsOn (set (over s ws) w.0 (Some w.1)) vs
     all_numbers [] a b = tt
     all_numbers (x ∷ vs) a b = (get_or-set_other (over s ws) w.0 x.0 (Some w.1) None (λ e. a.0 (sym e)) ∙ b.0, all_numbers vs a.1 b.1)
 

@@ -2,7 +2,7 @@
 use Rattle.std.proofs.Common.{◌≡◌, ℕ, zero, suc, ◌≤◌, List, [], ◌∷◌, map, length, Some, None, Option, sym, refl, ap, ◌∙◌, arith}
 use lib.ListN.{length-map}
 use Rattle.std.specs.Option.{option_map}
-use Rattle.std.specs.List.{flat_map, AllByRecursion as All, slice_get}
+use Rattle.std.specs.List.{flat_map, AllByRecursion, slice_get}
 use Rattle.std.proofs.lemmas.Bool.{cond-true, le-leb}
 use Rattle.page_store.specs.Pages.{Pages, Words, at}
 use Rattle.key_class.specs.Class.{Growing}

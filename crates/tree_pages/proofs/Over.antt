@@ -1,6 +1,6 @@
 -- Pages written over others.
 use Rattle.std.proofs.Common.{◌≡◌, ℕ, ◌+◌, ◌<◌, ◌≤◌, true, false, ◌≢◌, ◌⊎◌, List, [], ◌∷◌, ◌++◌, length, set, is_some, Some, None, Option, sym, refl, ap, ◌∙◌, subst, inl, inr, ⊎_elim, arith, length-set}
-use Rattle.std.specs.List.{AllByRecursion as All}
+use Rattle.std.specs.List.{AllByRecursion}
 use Rattle.std.proofs.lemmas.List.{get_or-set_same, get_or-set_other, set_past}
 use Rattle.std.proofs.lemmas.Bool.{cases_eq, cases_lt}
 use Rattle.page_store.specs.Pages.{Pages, Words, at}
@@ -19,7 +19,7 @@ over-++ s [] ys = refl
 over-++ s (x ∷ xs) ys = ap (λ (t : Pages). set t x.0 (Some x.1)) (over-++ s xs ys)
 
 -- A page that is not written.
-pub over_other : (s : Pages) (ws : Written) (p : ℕ) → All (λ q. p ≢ q) (numbers ws) → at (over s ws) p ≡ at s p
+pub over_other : (s : Pages) (ws : Written) (p : ℕ) → AllByRecursion (λ q. p ≢ q) (numbers ws) → at (over s ws) p ≡ at s p
 over_other s [] p a = refl
 over_other s (w ∷ ws) p a = get_or-set_other (over s ws) w.0 p (Some w.1) None a.0 ∙ over_other s ws p a.1
 

@@ -6,7 +6,7 @@ use mathlib.Core.Logic.{∥∥₁_elim}
 use mathlib.Core.List.Perm
 use mathlib.Core.List.{is_set, Mem, Memᴰ, Nodup, Nodup-cons, Perm, Permᴰ}
 use native.Mathlib.Nat.{ℕ_set}
-use Rattle.std.specs.List.{AllByRecursion as All}
+use Rattle.std.specs.List.{AllByRecursion}
 use Rattle.std.proofs.lemmas.List.{set-set, set_comm}
 use Rattle.std.proofs.lemmas.Bool.{cases_eq}
 use Rattle.page_store.specs.Pages.{Pages, Words}
@@ -80,7 +80,7 @@ module _ {A : Type 0} where
   sets_absorb s p x (w ∷ ws) (Memᴰ.tail m) = ap (λ (t : List A). set t w.0 w.1) (sets_absorb s p x ws m)
 
   -- Writes below others to the same places.
-  pub sets_absorb_all : (s : List A) (xs : List (ℕ × A)) (gone kept : List (ℕ × A)) → All (λ p. Mem p (places xs)) (places gone) → sets s (xs ++ (gone ++ kept)) ≡ sets s (xs ++ kept)
+  pub sets_absorb_all : (s : List A) (xs : List (ℕ × A)) (gone kept : List (ℕ × A)) → AllByRecursion (λ p. Mem p (places xs)) (places gone) → sets s (xs ++ (gone ++ kept)) ≡ sets s (xs ++ kept)
   sets_absorb_all s xs [] kept a = refl
   sets_absorb_all s xs (g ∷ gone) kept a =
       sets-++ s xs (g ∷ (gone ++ kept)) ∙ sets_absorb (sets s (gone ++ kept)) g.0 g.1 xs (mem_found g.0 (places xs) a.0)

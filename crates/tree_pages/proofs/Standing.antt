@@ -3,7 +3,7 @@ use Rattle.std.proofs.Common.{◌≡◌, ℕ, ◌+◌, ◌≤◌, List, [], ◌�
 use mathlib.Core.List.Perm
 use mathlib.Core.List.{Nodup, Nodup-append, Perm}
 use lib.ListN.{length-map}
-use Rattle.std.specs.List.{AllByRecursion as All}
+use Rattle.std.specs.List.{AllByRecursion}
 use Rattle.std.proofs.lemmas.Bool.{both_ways}
 use Rattle.page_store.specs.Pages.{Pages, at, free_pages}
 use Rattle.page_store.proofs.Calling.{Held}
@@ -40,14 +40,14 @@ module _ {K : Type 0} (G : Growing K) (before s : Pages) (w : Gist K) (on : OnPa
       let c : free_pages s ≡ free_pages (over before (written G w)) = ap free_pages on.laid in
       omega arith
 
-  pub pages_held : All (Held s) (pages w)
+  pub pages_held : AllByRecursion (Held s) (pages w)
   pages_held = rw (← pages_written G w) (held_numbers (written G w) stands)
     where
-      held_numbers : (ws : Written) → StandsOn s ws → All (Held s) (numbers ws)
+      held_numbers : (ws : Written) → StandsOn s ws → AllByRecursion (Held s) (numbers ws)
       held_numbers [] a = tt
       held_numbers (x ∷ xs) a = (ap is_some a.0, held_numbers xs a.1)
 
-pub all_perm : (P : ℕ → Type 0) {xs ys : List ℕ} → Perm xs ys → All P ys → All P xs
+pub all_perm : (P : ℕ → Type 0) {xs ys : List ℕ} → Perm xs ys → AllByRecursion P ys → AllByRecursion P xs
 all_perm P {xs} {ys} p a = all_from_mem P xs (λ x m. all_mem P ys x a (mem_found x ys ((Perm.mem_iff p).0 m)))
 
 module _ {K Q : Type 0} (C : Class K Q) (law : Lawful C) (before s t : Pages) (w : Gist K) (k : K) (n : ℕ) (fs : List ℕ) (on : OnPages C.growing before s w) where
@@ -90,7 +90,7 @@ module _ {K Q : Type 0} (C : Class K Q) (coded : Coded C.growing) (law : Lawful 
       a : TakesEditing C.growing w z k n (remove_edits C k n w)
       a = subst (Edited C.growing w k n (remove_edits C k n w)) is (removes_editing C coded law w k n on.rules)
 
-      free : All (Free before) (pages z ++ a.takes.given_back)
+      free : AllByRecursion (Free before) (pages z ++ a.takes.given_back)
       free = all_perm (Free before) (pages_taken C.growing a) on.fresh.free
 
       once : Nodup (pages z ++ a.takes.given_back)

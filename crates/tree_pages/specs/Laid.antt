@@ -1,7 +1,7 @@
 -- A tree on the pages of a store.
 use Rattle.std.specs.Prelude.{◌≡◌, ℕ, ◌<◌, List, [], ◌∷◌, map, length, Some, None, slice_set}
 use mathlib.Core.List.{Nodup}
-use Rattle.std.specs.List.{AllByRecursion as All}
+use Rattle.std.specs.List.{AllByRecursion}
 use Rattle.page_store.specs.Pages.{Pages, at}
 use Rattle.key_class.specs.Class.{Growing}
 use Rattle.node.specs.Nodes.{Entry}
@@ -27,7 +27,7 @@ pub record StartsAt {K : Type 0} (r : Root) (w : Gist K) : Type 0 where
 -- A node of 1 to 12 entries, ruled below, with all its pages on s.
 pub record Lies {K : Type 0} (G : Growing K) (s : Pages) (h : ℕ) (t : Tree K h) : Type 0 where
   pub size : Between 1 12 (length t.entries)
-  pub below : All (Ruled G h) t.entries
+  pub below : AllByRecursion (Ruled G h) t.entries
   pub words : StandsOn s (written_of G h t)
 
 -- Pages with others written over them; the first of the list is written last.
@@ -45,7 +45,7 @@ Free s p = (p < length s) × (at s p ≡ None)
 
 -- Free pages, none twice.
 pub record Fresh (s : Pages) (fs : List ℕ) : Type 0 where
-  pub free : All (Free s) fs
+  pub free : AllByRecursion (Free s) fs
   pub once : Nodup fs
 
 -- The tree keeps the rules, and lies on pages that were free before, none twice; s has these pages, and all others are as
