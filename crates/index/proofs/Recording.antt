@@ -1,4 +1,4 @@
--- What an index stands for after an insert and after a removal, and what it measures.
+-- What an index stands for after an insert and after a removal.
 use Rattle.std.proofs.Common.{◌≡◌, ℕ, suc, ◌+◌, ◌-◌, ◌<◌, ◌≤◌, min, List, [], ◌∷◌, map, length, Some, Ok, Err, sym, refl, ap, ◌∙◌, subst, arith}
 use mathlib.Core.List.Perm
 use Rattle.std.proofs.lemmas.Bool.{cond-true, lt-ltb}
@@ -22,7 +22,6 @@ use Rattle.removal.specs.declared.refusal.RemoveRefusal.{RemoveRefusal}
 use Rattle.index.specs.Standing.{record_numbers, StandsFor}
 use Rattle.index.specs.Inserting.{Inserted, Answered, Inserts}
 use Rattle.index.specs.Removing.{Removed, Removes}
-use Rattle.index.specs.Measuring.{Measures}
 use Rattle.index.specs.declared.shape.Shape.{Shape}
 
 module _ {K Q : Type 0} (C : Class K Q) (law : Lawful C) (s t : Pages) (f : Shape) (k : K) (n : ℕ) (r : Root) (count : ℕ)
@@ -93,10 +92,3 @@ module _ {K Q : Type 0} (C : Class K Q) (coded : Coded C.growing) (law : Lawful 
         let o = from.says w st.on.rules (stands C.growing before s w st.on) st.on.fresh.once st.starts in
         (o.0, o.1, o.2, refl);
   }
-
-pub measures : {K : Type 0} (G : Growing K) (s : Pages) (f : Shape) (free pages_now : ℕ) → free ≡ free_pages s → pages_now ≡ f.spare - free → Measures G s f (f.root.levels, f.records, pages_now)
-measures G s f free pages_now is less = record {
-  says = λ before w st.
-      let p : pages_now ≡ length (pages w) = omega (arith, st.spare, free_left G before s w st.on) in
-      λ i. (st.starts.levels_are i, st.counted i, p i);
-}

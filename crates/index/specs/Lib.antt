@@ -3,4 +3,3 @@ pub mod Standing
 pub mod Inserting
 pub mod Searching
 pub mod Removing
-pub mod Measuring

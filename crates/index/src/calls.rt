@@ -4,7 +4,6 @@ ghost use Rattle.index.specs.Parts.{store_in, shape_in, last_number};
 ghost use Rattle.index.specs.Standing.{StandsFor};
 ghost use Rattle.index.specs.Inserting.{Inserts};
 ghost use Rattle.index.specs.Removing.{Removes};
-ghost use Rattle.index.specs.Measuring.{Measures};
 
 use crate::index::Index;
 use crate::shape::Shape;
@@ -89,13 +88,5 @@ impl<K: KeyClass, S: PageStore> Index<K, S> {
             spare,
         };
         Ok(())
-    }
-
-    /// The levels, the records and the pages of the tree.
-    pub fn measure(&self) -> (u32, u32, u32)
-        ensures { S.rule (store_in self.now) → Measures K.class.growing (S.meaning (store_in self.now)) (shape_in self.now) result }
-    {
-        let pages = self.shape.spare.saturating_sub(self.store.free_count());
-        (self.shape.root.levels, self.shape.records, pages)
     }
 }
