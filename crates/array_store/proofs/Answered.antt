@@ -9,7 +9,8 @@ use Rattle.page_store.proofs.Counting.{none_from}
 use Rattle.array_store.specs.Layout.{page_at, pages_of, Spare, Edits}
 use Rattle.array_store.specs.Array.{words_in, pages_in, words_past}
 use Rattle.array_store.specs.declared.store.ArrayStore.{ArrayStore}
-use Rattle.array_store.specs.Laid.{length_pages, at_pages, at_pages_seen}
+use Rattle.array_store.specs.Laws.{length_pages, at_pages}
+use Rattle.array_store.proofs.Laid.{at_pages_seen}
 use Rattle.array_store.proofs.Edited.{edited_pages, edited_past}
 use Rattle.array_store.proofs.Kept.{Allows, allowed_within}
 

@@ -7,7 +7,8 @@ use Rattle.std.proofs.lemmas.Bool.{cases_eq, cases_order}
 use Rattle.std.specs.Vec.{with_items}
 use Rattle.page_store.specs.Pages.{Words}
 use Rattle.array_store.specs.Layout.{page_at, pages_of, listed_page, Edits}
-use Rattle.array_store.specs.Laid.{length_pages, at_pages, page_same, page_held}
+use Rattle.array_store.specs.Laws.{length_pages, at_pages, page_held}
+use Rattle.array_store.proofs.Laid.{page_same}
 
 pub other_word : {us vs : List ℕ} {p : ℕ} {x : Option Words} → Edits us vs p x
     → (q i : ℕ) → (q ≡ p → ⊥) → 65 * q ≤ i → i < 65 * q + 65 → get_or vs i 0 ≡ get_or us i 0

@@ -8,7 +8,8 @@ use Rattle.page_store.proofs.Counting.{all_free, none_from, free_most, written_f
 use Rattle.array_store.specs.Layout.{page_at, pages_of, listed_page, cleared, Spare, Edits}
 use Rattle.array_store.specs.Array.{words_in, pages_in}
 use Rattle.array_store.specs.declared.store.ArrayStore.{ArrayStore}
-use Rattle.array_store.specs.Laid.{length_pages, at_pages, at_pages_seen, held_within, cleared_mark, cleared_page, cleared_pages}
+use Rattle.array_store.specs.Laws.{length_pages, at_pages, held_within}
+use Rattle.array_store.proofs.Laid.{at_pages_seen, cleared_mark, cleared_page, cleared_pages}
 use Rattle.array_store.proofs.Edited.{other_word, other_page, edited_pages}
 use Rattle.array_store.proofs.Listed.{Listing, Unlisted, listing_kept, unlisted_kept, listing_rest, unlisted_first, spare_first, listing_more}
 
@@ -20,13 +21,16 @@ Marks ws size = (p : ℕ) → p < size → get_or ws (65 * p) 0 ≤ 1
 
 -- The ghost fields of a store of `size` pages in the words ws, of which there are `long`.
 abbrev pub Owed : ℕ → List ℕ → ℕ → ℕ → ℕ → ℕ → Type 0
-Owed long ws size fresh head listed =
-    (65 * size ≤ long) × ((size ≤ 4096) × ((fresh ≤ size) × ((listed + (size - fresh) ≡ free_pages (pages_of ws size))
-    × (Unused ws size fresh
-    × (((i : ℕ) → i < listed → Spare ws fresh (listed_page ws head i))
-    × (Marks ws size
-    × (((i j : ℕ) → i < j → j < listed → listed_page ws head i ≡ listed_page ws head j → ⊥)
-    × Unit)))))))
+Owed long ws size fresh head listed = record {
+  room : 65 * size ≤ long;
+  few : size ≤ 4096;
+  within : fresh ≤ size;
+  counted : listed + (size - fresh) ≡ free_pages (pages_of ws size);
+  unused : Unused ws size fresh;
+  spare : (i : ℕ) → i < listed → Spare ws fresh (listed_page ws head i);
+  marks : Marks ws size;
+  apart : (i j : ℕ) → i < j → j < listed → listed_page ws head i ≡ listed_page ws head j → ⊥;
+}
 
 -- A store just made.
 pub owed_made : (long : ℕ) (us : List ℕ) (n : ℕ) → 65 * n ≤ length us → 65 * n ≤ long → n ≤ 4096 → Owed long (cleared us n) n 0 0 0
@@ -35,7 +39,16 @@ owed_made long us n room r few =
     let f = all_free n in
     let unused : Unused (cleared us n) n 0 = λ p lo hi. ap is_some (cleared_page us n p room hi) in
     let marks : Marks (cleared us n) n = λ p h. let z = cleared_mark us n p room h in omega arith in
-    (r, (few, (omega arith, (omega arith, (unused, ((λ i h. absurd (omega arith)), (marks, ((λ i j h g. absurd (omega arith)), tt))))))))
+    record {
+      room = r;
+      few = few;
+      within = omega arith;
+      counted = omega arith;
+      unused = unused;
+      spare = λ i h. absurd (omega arith);
+      marks = marks;
+      apart = λ i j h g. absurd (omega arith);
+    }
 
 -- A store whose words have become ws.
 abbrev Keeps : ArrayStore → List ℕ → ℕ → ℕ → ℕ → Type 0
@@ -43,7 +56,16 @@ Keeps s ws = Owed (vec_len s.words) ws s.size
 
 keeps : (s : ArrayStore) (ws : List ℕ) (fresh head listed : ℕ) → fresh ≤ s.size → listed + (s.size - fresh) ≡ free_pages (pages_of ws s.size)
     → Unused ws s.size fresh → Marks ws s.size → Listing ws fresh head listed → Keeps s ws fresh head listed
-keeps s ws fresh head listed w c u m l = (s.room, (s.few, (w, (c, (u, (l.spare, (m, (l.apart, tt))))))))
+keeps s ws fresh head listed w c u m l = record {
+  room = s.room;
+  few = s.few;
+  within = w;
+  counted = c;
+  unused = u;
+  spare = l.spare;
+  marks = m;
+  apart = l.apart;
+}
 
 marks_kept : (s : ArrayStore) {ws : List ℕ} {p : ℕ} {x : Option Words} → p < s.size → Edits (words_in s) ws p x → Marks ws s.size
 marks_kept s {ws} {p} l e q h = ⊎_elim

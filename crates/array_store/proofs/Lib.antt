@@ -1,3 +1,4 @@
+pub mod Laid
 pub mod Edited
 pub mod Listed
 pub mod Kept

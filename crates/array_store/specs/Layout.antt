@@ -1,5 +1,5 @@
 -- How pages lie in a list of words: 65 words a page, a mark and then its 64 words.
-use Rattle.std.specs.Prelude.{◌≡◌, ℕ, zero, suc, ◌+◌, ◌*◌, ◌<◌, ◌≤◌, false, cond, List, map, length, take, drop, set, is_some, Some, None, Option, ◌==◌, slice_index, slice_index_or, slice_set}
+use Rattle.std.specs.Prelude.{◌≡◌, ℕ, zero, suc, ◌+◌, ◌*◌, ◌<◌, ◌≤◌, false, cond, List, map, length, take, drop, is_some, Some, None, Option, ◌==◌, slice_index, slice_index_or, slice_set}
 use Rattle.std.specs.List.{range_with_len}
 use Rattle.page_store.specs.Pages.{Pages, Words}
 

@@ -1,3 +1,3 @@
 pub mod Layout
 pub mod Array
-pub mod Laid
+pub mod Laws

@@ -4,8 +4,7 @@ ghost use Rattle.page_store.specs.Refusals.{answer};
 ghost use Rattle.page_store.specs.Calls.{Took, Takes, Reads, Writes, GivesBack};
 ghost use Rattle.array_store.specs.Layout.{cleared};
 ghost use Rattle.array_store.specs.Array.{words_in, pages_in, words_past};
-ghost use Rattle.std.proofs.Common.{arith};
-ghost use Rattle.array_store.specs.Laid.{length_pages, page_whole};
+ghost use Rattle.array_store.specs.Laws.{few_pages, whole_pages};
 
 use crate::layout::{GROUP, clear_marks, fetch, fill, hold, is_held, next_listed, release};
 use crate::store::ArrayStore;
@@ -97,9 +96,9 @@ impl PageStore for ArrayStore {
 
     ghost rule = { λ _. Unit {0} };
 
-    ghost few = { λ s _. omega (arith, length_pages (words_in s) s.size, s.few) };
+    ghost few = { λ s _. few_pages (words_in s) s.size s.few };
 
-    ghost whole = { λ s p w _ e. page_whole (words_in s) s.size p w (omega (arith, s.room, s.words.ok)) e };
+    ghost whole = { λ s p w _ e. whole_pages s.words s.size p w s.room e };
 
     fn size(&self) -> u32 {
         self.size

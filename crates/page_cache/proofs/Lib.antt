@@ -1,1 +1,4 @@
 pub mod Firsts
+pub mod Slots
+pub mod Laying
+pub mod Steps

@@ -2,6 +2,4 @@ pub mod Slots
 pub mod Policy
 pub mod Over
 pub mod Cached
-pub mod Laying
-pub mod Steps
-pub mod SlotsLemmas
+pub mod Laws

@@ -5,9 +5,7 @@ ghost use Rattle.page_cache.specs.Slots.{in_use, is_changed, keeps, slot_at, kep
 ghost use Rattle.page_cache.specs.Policy.{new_table, slot, filled, after_read, after_write, after_give_back};
 ghost use Rattle.page_cache.specs.Over.{Fair};
 ghost use Rattle.page_cache.specs.Cached.{cached, Rule, places_in};
-ghost use Rattle.std.proofs.Common.{arith};
-ghost use Rattle.page_cache.specs.Laying.{length_over};
-ghost use Rattle.page_cache.specs.Steps.{view_whole};
+ghost use Rattle.page_cache.specs.Laws.{few_over, whole_over};
 
 use crate::cache::Cache;
 use crate::slot::{Slot, SlotState};
@@ -17,8 +15,8 @@ use page_store::{PageStore, StoreRefusal};
 impl<S: PageStore> Cache<S> {
     /// A cache over `below`, which is out of reach until the cache is ended.
     pub fn new(below: S) -> Cache<S>
-        ensures rule { rule below → Rule meaning rule result }
-        ensures pages { cached meaning result ≡ meaning below }
+        ensures rule { S.rule below → Rule S.meaning S.rule result }
+        ensures pages { cached S.meaning result ≡ S.meaning below }
         ensures table { places_in result ≡ new_table }
     {
         Cache {
@@ -33,8 +31,8 @@ impl<S: PageStore> Cache<S> {
         ensures keeps { (j p : ℕ) → keeps p (slot_at self.new.table.slots j) ≡ keeps p (slot_at self.old.table.slots j) }
         ensures others { (k : Slot) → slice_set self.new.table.slots i k ≡ slice_set self.old.table.slots i k }
         ensures turn { self.new.table.turn ≡ self.old.table.turn }
-        ensures rule { Rule meaning rule self.old → Rule meaning rule self.new
-            × (cached meaning self.new ≡ cached meaning self.old)
+        ensures rule { Rule S.meaning S.rule self.old → Rule S.meaning S.rule self.new
+            × (cached S.meaning self.new ≡ cached S.meaning self.old)
             × (is_changed (slot_at self.new.table.slots i).state ≡ false) }
     {
         if self.table.is_changed(i) {
@@ -49,8 +47,8 @@ impl<S: PageStore> Cache<S> {
     fn keep(&mut self, page: u32, state: SlotState, words: &[u32; 64])
         requires { (in_use state ≡ true) × (((j : ℕ) → keeps page (slot_at self.old.table.slots j) ≡ false)) }
         ensures table { places_in self.new ≡ filled (places_in self.old) (slot page state words.now) }
-        ensures rule { Rule meaning rule self.old → Fair (cached meaning self.old) page (slot page state words.now)
-            → Rule meaning rule self.new × (cached meaning self.new ≡ slice_set (cached meaning self.old) page (Some words.now)) }
+        ensures rule { Rule S.meaning S.rule self.old → Fair (cached S.meaning self.old) page (slot page state words.now)
+            → Rule S.meaning S.rule self.new × (cached S.meaning self.new ≡ slice_set (cached S.meaning self.old) page (Some words.now)) }
     {
         let slot = self.table.choose();
         self.flush(slot);
@@ -59,7 +57,7 @@ impl<S: PageStore> Cache<S> {
 
     /// Writes what is changed below, and hands back the store below.
     pub fn end(mut self) -> S
-        ensures { Rule meaning rule self → rule result × (meaning result ≡ cached meaning self) }
+        ensures { Rule S.meaning S.rule self → S.rule result × (S.meaning result ≡ cached S.meaning self) }
     {
         for i in 0..4 {
             self.flush(i);
@@ -70,15 +68,14 @@ impl<S: PageStore> Cache<S> {
 }
 
 impl<S: PageStore> PageStore for Cache<S> {
-    ghost meaning = { cached S.PageStore.meaning };
+    ghost meaning = { cached S.meaning };
 
-    ghost rule = { Rule S.PageStore.meaning S.PageStore.rule };
+    ghost rule = { Rule S.meaning S.rule };
 
-    ghost few = { λ s h. omega (arith, length_over (S.PageStore.meaning s.below) (kept_in s.table.slots), S.PageStore.few s.below h.0) };
+    ghost few = { λ s h. few_over (S.meaning s.below) (kept_in s.table.slots) (S.few s.below h.0) };
 
     ghost whole = { λ s p w h e.
-        view_whole (S.PageStore.meaning s.below) s.table.slots p w s.table.apart s.table.four s.table.whole h.1
-        (λ v f. S.PageStore.whole s.below p v h.0 f) e };
+        whole_over (S.meaning s.below) s.table.slots p w s.table.four s.table.whole (λ v f. S.whole s.below p v h.0 f) e };
 
     fn size(&self) -> u32 {
         self.below.size()
@@ -89,14 +86,14 @@ impl<S: PageStore> PageStore for Cache<S> {
     }
 
     fn take(&mut self) -> Result<u32, StoreRefusal>
-        ensures takes { Rule meaning rule self.old → Rule meaning rule self.new × Takes (cached meaning self.old) (cached meaning self.new) zeros result }
+        ensures takes { Rule S.meaning S.rule self.old → Rule S.meaning S.rule self.new × Takes (cached S.meaning self.old) (cached S.meaning self.new) zeros result }
         ensures table { places_in self.new ≡ places_in self.old }
     {
         self.below.take()
     }
 
     fn read(&mut self, page: u32, words: &mut [u32; 64]) -> Result<(), StoreRefusal>
-        ensures reads { Rule meaning rule self.old → Rule meaning rule self.new × Reads (cached meaning self.old) (cached meaning self.new) page words.old words.new result }
+        ensures reads { Rule S.meaning S.rule self.old → Rule S.meaning S.rule self.new × Reads (cached S.meaning self.old) (cached S.meaning self.new) page words.old words.new result }
         ensures table { places_in self.new ≡ (if is_ok result then after_read (places_in self.old) page words.new else places_in self.old) }
     {
         if let Some(i) = self.table.find(page) {
@@ -109,7 +106,7 @@ impl<S: PageStore> PageStore for Cache<S> {
     }
 
     fn write(&mut self, page: u32, words: &[u32; 64]) -> Result<(), StoreRefusal>
-        ensures writes { Rule meaning rule self.old → Rule meaning rule self.new × Writes (cached meaning self.old) (cached meaning self.new) page words.now result }
+        ensures writes { Rule S.meaning S.rule self.old → Rule S.meaning S.rule self.new × Writes (cached S.meaning self.old) (cached S.meaning self.new) page words.now result }
         ensures table { places_in self.new ≡ (if is_ok result then after_write (places_in self.old) page words.now else places_in self.old) }
     {
         if let Some(i) = self.table.find(page) {
@@ -123,7 +120,7 @@ impl<S: PageStore> PageStore for Cache<S> {
     }
 
     fn give_back(&mut self, page: u32) -> Result<(), StoreRefusal>
-        ensures gives { Rule meaning rule self.old → Rule meaning rule self.new × GivesBack (cached meaning self.old) (cached meaning self.new) page result }
+        ensures gives { Rule S.meaning S.rule self.old → Rule S.meaning S.rule self.new × GivesBack (cached S.meaning self.old) (cached S.meaning self.new) page result }
         ensures table { places_in self.new ≡ (if is_ok result then after_give_back (places_in self.old) page else places_in self.old) }
     {
         self.below.give_back(page)?;

@@ -1,6 +1,6 @@
 use Rattle.std.proofs.Common.{◌≡◌, ℕ, ◌*◌, List, set, refl, ap, ◌∙◌, add-one, arith}
 use Rattle.array_store.specs.Layout.{cleared}
-use Rattle.array_store.specs.Laid.{cleared_more}
+use Rattle.array_store.proofs.Laid.{cleared_more}
 use Rattle.array_store.proofs.layout.clear_marks.Goals as goal
 
 pub loop-page-init : goal.loop-page-init

@@ -1,5 +1,5 @@
 use Rattle.std.proofs.Common.{◌≡◌, ◌+◌, ◌-◌, ◌*◌, arith}
-use Rattle.array_store.specs.Laid.{page_held, held_mark}
+use Rattle.array_store.specs.Laws.{page_held, held_mark}
 use Rattle.array_store.proofs.layout.fetch.Goals as goal
 
 pub returns : goal.returns

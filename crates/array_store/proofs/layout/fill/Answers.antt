@@ -1,5 +1,5 @@
 use Rattle.std.proofs.Common.{arith}
-use Rattle.array_store.specs.Laid.{held_mark}
+use Rattle.array_store.specs.Laws.{held_mark}
 use Rattle.array_store.proofs.Edited.{fill_edits}
 use Rattle.array_store.proofs.layout.fill.Goals as goal
 

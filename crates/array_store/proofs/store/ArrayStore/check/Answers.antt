@@ -1,7 +1,8 @@
 use Rattle.std.proofs.Common.{is_some, sym, ap, ◌∙◌, arith}
 use Rattle.page_store.proofs.Calling.{answer_held, answer_free, answer_outside}
 use Rattle.array_store.specs.Array.{words_in, pages_in}
-use Rattle.array_store.specs.Laid.{length_pages, at_pages_seen}
+use Rattle.array_store.specs.Laws.{length_pages}
+use Rattle.array_store.proofs.Laid.{at_pages_seen}
 use Rattle.array_store.proofs.store.ArrayStore.check.Goals as goal
 
 pub returns-then-page-self : goal.returns-then-page-self

@@ -1,6 +1,7 @@
 use Rattle.std.proofs.Common.{ℕ, List, replicate, None, vec_items, vec_len, sym, ap, ◌∙◌, subst, arith}
 use Rattle.array_store.specs.Layout.{pages_of, cleared}
-use Rattle.array_store.specs.Laid.{length_pages, cleared_pages, refilled_cleared}
+use Rattle.array_store.specs.Laws.{length_pages}
+use Rattle.array_store.proofs.Laid.{cleared_pages, refilled_cleared}
 use Rattle.array_store.proofs.Kept.{Owed, owed_made}
 use Rattle.array_store.proofs.store.ArrayStore.new.Goals as goal
 

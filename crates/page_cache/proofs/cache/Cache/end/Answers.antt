@@ -1,10 +1,10 @@
-use Rattle.std.proofs.Common.{◌≡◌, ℕ, ◌<◌, ◌≤◌, List, sym, refl, ap, ◌∙◌, ⊎_elim, arith, below_more}
+use Rattle.std.proofs.Common.{◌<◌, ◌≤◌, sym, refl, ap, ◌∙◌, ⊎_elim, arith, below_more}
 use Rattle.std.proofs.lemmas.List.{get_or_past}
 use Rattle.std.proofs.lemmas.Bool.{cases_lt}
 use Rattle.page_cache.specs.declared.slot.Slot.{Slot}
-use Rattle.page_cache.specs.Slots.{is_changed, blank, slot_at}
-use Rattle.page_cache.specs.SlotsLemmas.{same_slot}
-use Rattle.page_cache.specs.Steps.{all_clean}
+use Rattle.page_cache.specs.Slots.{is_changed, blank}
+use Rattle.page_cache.proofs.Slots.{same_slot}
+use Rattle.page_cache.proofs.Steps.{all_clean}
 use Rattle.page_cache.proofs.cache.Cache.end.Goals as goal
 
 pub loop-i-init : goal.loop-i-init

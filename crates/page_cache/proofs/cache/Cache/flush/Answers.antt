@@ -1,16 +1,15 @@
-use Rattle.std.proofs.Common.{◌≡◌, ℕ, ◌<◌, true, false, List, length, set, Some, sym, refl, ap, ◌∙◌, subst, arith}
+use Rattle.std.proofs.Common.{◌≡◌, ℕ, ◌<◌, true, List, length, set, Some, sym, refl, ap, ◌∙◌, subst, arith}
 use Rattle.std.proofs.lemmas.List.{get_or-set_same, set-set}
 use Rattle.std.proofs.lemmas.Bool.{both_ways}
 use Rattle.page_store.specs.Pages.{Pages, Words}
-use Rattle.page_store.specs.Calls.{Writes}
 use Rattle.page_store.proofs.Calling.{write_ok, write_refused}
 use Rattle.page_cache.specs.declared.slot.Slot.{Slot}
 use Rattle.page_cache.specs.declared.slot.SlotState.TheVariants.{Clean}
-use Rattle.page_cache.specs.Slots.{in_use, is_changed, keeps, blank, slot_at, Apart}
+use Rattle.page_cache.specs.Slots.{in_use, is_changed, keeps, blank, slot_at}
 use Rattle.page_cache.specs.Policy.{marked}
 use Rattle.page_cache.specs.Over.{Tied}
-use Rattle.page_cache.specs.SlotsLemmas.{changed_in_use, clean_keeps, keeps_own}
-use Rattle.page_cache.specs.Steps.{view, flushed}
+use Rattle.page_cache.proofs.Slots.{changed_in_use, clean_keeps, keeps_own}
+use Rattle.page_cache.proofs.Steps.{view, flushed}
 use Rattle.page_cache.proofs.cache.Cache.flush.Goals as goal
 
 pub returns-in-Ok : goal.returns-in-Ok

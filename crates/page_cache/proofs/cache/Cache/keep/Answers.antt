@@ -1,10 +1,10 @@
-use Rattle.std.proofs.Common.{◌≡◌, ℕ, ◌<◌, true, false, List, length, set, is_some, Some, sym, refl, ap, ◌∙◌, subst, arith}
+use Rattle.std.proofs.Common.{◌≡◌, ℕ, false, List, set, is_some, Some, sym, ap, ◌∙◌, subst, arith}
 use Rattle.page_store.specs.Pages.{Pages, at}
 use Rattle.page_cache.specs.declared.slot.Slot.{Slot}
-use Rattle.page_cache.specs.Slots.{is_changed, keeps, slot_at}
+use Rattle.page_cache.specs.Slots.{keeps, slot_at}
 use Rattle.page_cache.specs.Policy.{Places, slot}
-use Rattle.page_cache.specs.Over.{Fair, Tied}
-use Rattle.page_cache.specs.Steps.{view, view_below, placed}
+use Rattle.page_cache.specs.Over.{Tied}
+use Rattle.page_cache.proofs.Steps.{view, view_below, placed}
 use Rattle.page_cache.proofs.cache.Cache.keep.Goals as goal
 
 same-places : (ks ls : List Slot) (m n : ℕ) → ks ≡ ls → m ≡ n → ◌≡◌ {A = Places} (record { slots = ks; turn = m }) (record { slots = ls; turn = n })

@@ -2,7 +2,7 @@ use Rattle.std.proofs.Common.{◌≡◌, ℕ, zero, suc, false, List, refl, ap, 
 use Rattle.page_cache.specs.declared.slot.Slot.{Slot}
 use Rattle.page_cache.specs.Slots.{keeps, slot_at}
 use Rattle.page_cache.specs.Policy.{new_table}
-use Rattle.page_cache.specs.Steps.{none_kept}
+use Rattle.page_cache.proofs.Steps.{none_kept}
 use Rattle.page_cache.proofs.cache.Cache.new.Goals as goal
 
 nothing : (i p : ℕ) → keeps p (slot_at new_table.slots i) ≡ false

@@ -1,5 +1,5 @@
 use Rattle.std.proofs.Common.{sym, ◌∙◌}
-use Rattle.page_cache.specs.Laying.{free_over}
+use Rattle.page_cache.proofs.Laying.{free_over}
 use Rattle.page_cache.proofs.calls.CachePageStore.free_count.Goals as goal
 
 pub returns : goal.returns

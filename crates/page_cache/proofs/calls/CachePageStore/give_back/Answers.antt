@@ -1,4 +1,4 @@
-use Rattle.std.proofs.Common.{◌≡◌, ℕ, true, false, cond, List, set, is_ok, None, Err, sym, refl, ap, ◌∙◌, subst, arith}
+use Rattle.std.proofs.Common.{◌≡◌, ℕ, cond, List, set, is_ok, None, Err, sym, refl, ap, ◌∙◌, subst, arith}
 use Rattle.std.proofs.lemmas.Result.{err_from_is_err_and}
 use Rattle.std.proofs.lemmas.Bool.{false≢true}
 use Rattle.page_store.specs.Pages.{Pages}
@@ -6,11 +6,11 @@ use Rattle.page_store.proofs.Calling.{give_ok, give_refused}
 use Rattle.page_cache.specs.declared.slot.Slot.{Slot}
 use Rattle.page_cache.specs.declared.slot.SlotState.TheVariants.{Empty}
 use Rattle.page_cache.specs.Slots.{keeps, slot_at}
-use Rattle.page_cache.specs.Policy.{Places, marked, replaced, by_slot, after_give_back}
+use Rattle.page_cache.specs.Policy.{marked, replaced, by_slot, after_give_back}
 use Rattle.page_cache.specs.Over.{Tied}
 use Rattle.page_cache.specs.Cached.{places_in}
 use Rattle.page_cache.proofs.Firsts.{found, none_passes}
-use Rattle.page_cache.specs.Steps.{view, view_answer, tied_same, gave_kept, gave_unkept, ok_over, changed_over, refused_over}
+use Rattle.page_cache.proofs.Steps.{view, view_answer, tied_same, gave_kept, gave_unkept, ok_over, changed_over, refused_over}
 use Rattle.page_cache.proofs.calls.CachePageStore.give_back.Goals as goal
 
 pub returns-in_err-give_back : goal.returns-in_err-give_back

@@ -1,17 +1,16 @@
-use Rattle.std.proofs.Common.{◌≡◌, ℕ, false, cond, List, set, is_some, is_ok, Some, None, Err, Result, sym, refl, ap, ◌∙◌, subst, arith}
+use Rattle.std.proofs.Common.{◌≡◌, ℕ, cond, List, set, is_some, is_ok, Some, None, Err, sym, refl, ap, ◌∙◌, subst, arith}
 use Rattle.std.proofs.lemmas.List.{set-get_or}
 use Rattle.std.proofs.lemmas.Result.{err_from_is_err_and}
-use Rattle.page_store.specs.declared.refusal.StoreRefusal.{StoreRefusal}
 use Rattle.page_store.specs.Pages.{Pages, Words, at}
 use Rattle.page_store.specs.Calls.{Reads}
 use Rattle.page_store.proofs.Calling.{read_ok}
 use Rattle.page_cache.specs.declared.slot.Slot.{Slot}
-use Rattle.page_cache.specs.Slots.{keeps, slot_at}
-use Rattle.page_cache.specs.Policy.{Places, slot, filled, by_slot, after_read}
+use Rattle.page_cache.specs.Slots.{keeps}
+use Rattle.page_cache.specs.Policy.{slot, filled, by_slot, after_read}
 use Rattle.page_cache.specs.declared.slot.SlotState.TheVariants.{Clean}
 use Rattle.page_cache.specs.Cached.{places_in}
 use Rattle.page_cache.proofs.Firsts.{found, none_passes}
-use Rattle.page_cache.specs.Steps.{view, view_below, tied_same, reads_over, reads_kept}
+use Rattle.page_cache.proofs.Steps.{view, tied_same, reads_over, reads_kept}
 use Rattle.page_cache.proofs.calls.CachePageStore.read.Goals as goal
 
 pub words-requires : goal.words-requires

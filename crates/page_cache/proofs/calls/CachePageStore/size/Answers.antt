@@ -1,5 +1,5 @@
 use Rattle.std.proofs.Common.{sym, ◌∙◌}
-use Rattle.page_cache.specs.Laying.{length_over}
+use Rattle.page_cache.specs.Laws.{length_over}
 use Rattle.page_cache.proofs.calls.CachePageStore.size.Goals as goal
 
 pub returns : goal.returns

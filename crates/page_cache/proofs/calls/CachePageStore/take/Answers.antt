@@ -1,5 +1,5 @@
 use Rattle.std.proofs.Common.{refl}
-use Rattle.page_cache.specs.Steps.{takes_over}
+use Rattle.page_cache.proofs.Steps.{takes_over}
 use Rattle.page_cache.proofs.calls.CachePageStore.take.Goals as goal
 
 pub returns : goal.returns

@@ -1,4 +1,4 @@
-use Rattle.std.proofs.Common.{◌≡◌, ℕ, ◌<◌, true, false, cond, List, length, set, is_some, is_ok, Some, Err, sym, refl, ap, ◌∙◌, subst, arith}
+use Rattle.std.proofs.Common.{◌≡◌, ℕ, cond, List, set, is_some, is_ok, Some, Err, sym, refl, ap, ◌∙◌, subst, arith}
 use Rattle.std.proofs.lemmas.Result.{err_from_is_err_and}
 use Rattle.std.proofs.lemmas.Bool.{both_ways, true≢false}
 use Rattle.page_store.specs.Pages.{Pages, at}
@@ -6,13 +6,13 @@ use Rattle.page_store.proofs.Calling.{Held, read_ok, read_refused}
 use Rattle.page_cache.specs.declared.slot.Slot.{Slot}
 use Rattle.page_cache.specs.declared.slot.SlotState.TheVariants.{Changed}
 use Rattle.page_cache.specs.Slots.{keeps, slot_at, kept_in}
-use Rattle.page_cache.specs.Policy.{Places, slot, filled, replaced, by_slot, after_write}
+use Rattle.page_cache.specs.Policy.{slot, filled, replaced, by_slot, after_write}
 use Rattle.page_cache.specs.Over.{Tied}
 use Rattle.page_cache.specs.Cached.{places_in}
 use Rattle.page_cache.proofs.Firsts.{found, none_passes}
-use Rattle.page_cache.specs.Laying.{held_over}
-use Rattle.page_cache.specs.SlotsLemmas.{no_other_keeps, keeps_only}
-use Rattle.page_cache.specs.Steps.{view, view_answer, tied_same, placed, ok_over, changed_over, refused_over}
+use Rattle.page_cache.proofs.Laying.{held_over}
+use Rattle.page_cache.proofs.Slots.{no_other_keeps, keeps_only}
+use Rattle.page_cache.proofs.Steps.{view, view_answer, tied_same, placed, ok_over, changed_over, refused_over}
 use Rattle.page_cache.proofs.calls.CachePageStore.write.Goals as goal
 
 pub put-requires : goal.put-requires

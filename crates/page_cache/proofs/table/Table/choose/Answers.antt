@@ -1,4 +1,4 @@
-use Rattle.std.proofs.Common.{◌+◌, ◌%◌, cond, is_some, unwrap_or, sym, refl, ap, ◌∙◌, arith}
+use Rattle.std.proofs.Common.{◌+◌, ◌%◌, cond, is_some, unwrap_or, sym, refl, ap, arith}
 use Rattle.page_cache.specs.Slots.{is_empty}
 use Rattle.page_cache.proofs.Firsts.{found}
 use Rattle.page_cache.proofs.table.Table.choose.Goals as goal

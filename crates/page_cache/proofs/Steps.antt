@@ -1,22 +1,23 @@
 -- What each step of a cache does to the pages that it means: s and t are the pages below, ks and ls the slots.
-use Rattle.std.specs.Prelude.{◌≡◌, ℕ, ◌<◌, ◌≤◌, Bool, true, false, List, [], ◌∷◌, length, set, is_some, Some, None, Ok, Err, Option, Result, ◌≢◌, slice_set, refl}
-use Rattle.std.proofs.Common.{sym, ap, subst, ◌∙◌, ⊎_elim, arith}
-use Rattle.std.proofs.lemmas.List.{get_or-set_same, get_or-set_other, get_or_past, length-set}
-use Rattle.std.proofs.lemmas.Bool.{both_ways, cases_eq, cases_lt, cases_Bool, false≢true}
+use Rattle.std.specs.Prelude.{◌≡◌, ℕ, ◌<◌, true, false, List, length, set, is_some, Some, None, Ok, Err, Option, Result, ◌≢◌, slice_set, refl}
+use Rattle.std.proofs.Common.{sym, ap, subst, ◌∙◌, ⊎_elim}
+use Rattle.std.proofs.lemmas.List.{get_or-set_same, get_or-set_other, length-set}
+use Rattle.std.proofs.lemmas.Bool.{both_ways, cases_eq, cases_Bool, false≢true}
 use Rattle.std.specs.Option.{unwrap_or}
 use Rattle.page_store.specs.declared.refusal.StoreRefusal.{StoreRefusal}
-use Rattle.page_store.specs.Pages.{Pages, Words, at, free_pages}
+use Rattle.page_store.specs.Pages.{Pages, Words, at}
 use Rattle.page_store.specs.Refusals.{answer}
-use Rattle.page_store.specs.Calls.{changed, Takes, Took, Reads}
+use Rattle.page_store.specs.Calls.{changed, Takes, Reads}
 use Rattle.page_store.proofs.Counting.{held_below}
 use Rattle.page_store.proofs.Calling.{Held, Refused, answer_same, answer_held, changed_held, changed_free}
 use Rattle.page_cache.specs.declared.slot.Slot.{Slot}
 use Rattle.page_cache.specs.declared.slot.SlotState.TheVariants.{Empty, Clean}
-use Rattle.page_cache.specs.Slots.{in_use, is_changed, keeps, blank, slot_at, kept_in, Apart, Whole}
+use Rattle.page_cache.specs.Slots.{in_use, is_changed, keeps, blank, slot_at, kept_in, Apart}
 use Rattle.page_cache.specs.Policy.{marked}
 use Rattle.page_cache.specs.Over.{over, Fair, Tied}
-use Rattle.page_cache.specs.SlotsLemmas.{keeps_page, keeps_own, keeps_only, no_other_keeps, which, kept_miss, kept_hit, kept_other, each_set}
-use Rattle.page_cache.specs.Laying.{length_over, free_over, held_over, over_none, over_kept, over_at, same_pages, set_pages}
+use Rattle.page_cache.proofs.Slots.{keeps_page, keeps_own, keeps_only, no_other_keeps, which, kept_miss, kept_hit, kept_other, each_set}
+use Rattle.page_cache.specs.Laws.{length_over}
+use Rattle.page_cache.proofs.Laying.{free_over, held_over, over_none, over_kept, over_at, same_pages, set_pages}
 
 abbrev pub view : Pages → List Slot → Pages
 view s ks = over s (kept_in ks)
@@ -162,23 +163,6 @@ gave_kept s t ks p i held e apart l tied h =
           (each_set (λ j y. keeps p y ≡ false) ks i (marked (slot_at ks i) Empty) l refl alone)
           (λ q ne. kept_other ks i q (marked (slot_at ks i) Empty) (keeps_only (slot_at ks i) p q h ne) refl),
     )
-
--- A page that the cache means has 64 words.
-pub view_whole : (s : Pages) (ks : List Slot) (p : ℕ) (w : Words) → Apart ks → length ks ≡ 4 → Whole ks → Tied s ks
-    → ((v : Words) → at s p ≡ Some v → length v ≡ 64) → at (view s ks) p ≡ Some w → length w ≡ 64
-view_whole s ks p w apart four whole tied below e = ⊎_elim
-    (λ (h : (i : ℕ) × (keeps p (slot_at ks i) ≡ true)).
-    let f = view_kept s ks h.0 p apart tied h.1 in
-    let same : w ≡ (slot_at ks h.0).words = cc in
-    ap length same ∙ whole h.0 (within h.0 h.1))
-    (λ (h : (i : ℕ) → keeps p (slot_at ks i) ≡ false). below w (sym (view_below s ks p h) ∙ e))
-    (which ks p)
-  where
-    within : (i : ℕ) → keeps p (slot_at ks i) ≡ true → i < 4
-    within i h = ⊎_elim
-        (λ (b : i < 4). b)
-        (λ (b : 4 ≤ i). absurd (false≢true (sym (ap (keeps p) (get_or_past ks i blank (omega arith))) ∙ h)))
-        (cases_lt i 4)
 
 -- What holds of a call below, said of the pages that the cache means.
 pub ok_over : (s : Pages) (ks : List Slot) (p : ℕ) → Held s p → Ok tt ≡ answer (view s ks) p

@@ -1,21 +1,11 @@
 -- Laws of pages laid over others.
-use Rattle.std.specs.Prelude.{◌≡◌, ℕ, zero, suc, ◌+◌, ◌<◌, Bool, true, false, List, [], ◌∷◌, length, is_some, Some, None, Option, ◌≢◌, slice_set, refl}
+use Rattle.std.specs.Prelude.{◌≡◌, ℕ, suc, ◌<◌, true, [], ◌∷◌, length, is_some, Some, None, Option, ◌≢◌, slice_set, refl}
 use Rattle.std.proofs.Common.{sym, ap, ◌∙◌, ⊎_elim, arith}
 use Rattle.std.proofs.lemmas.List.{get_or-set_same, get_or-set_other, length-set, ext_get_or}
 use Rattle.std.proofs.lemmas.Bool.{cases_eq}
 use Rattle.page_store.specs.Pages.{Pages, Words, at, one_if_free, free_pages}
 use Rattle.page_cache.specs.Over.{lay, over}
-
-pub length_over : (s : Pages) (f : ℕ → Option Words) → length (over s f) ≡ length s
-unfolding over
-length_over [] f = refl
-length_over (x ∷ s) f = ap suc (length_over s (λ p. f (suc p)))
-
-pub at_over : (s : Pages) (f : ℕ → Option Words) (p : ℕ) → at (over s f) p ≡ lay (at s p) (f p)
-unfolding over
-at_over [] f p = refl
-at_over (x ∷ s) f zero = refl
-at_over (x ∷ s) f (suc p) = at_over s (λ q. f (suc q)) p
+use Rattle.page_cache.specs.Laws.{at_over}
 
 lay_one : (x y : Option Words) → one_if_free (lay x y) ≡ one_if_free x
 lay_one None y = refl

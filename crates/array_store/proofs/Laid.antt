@@ -1,47 +1,15 @@
--- How the pages lie in the words: their number, each of them, and the words whose marks are cleared.
-use Rattle.std.specs.Prelude.{◌≡◌, ℕ, zero, suc, ◌+◌, ◌-◌, ◌*◌, ◌<◌, ◌≤◌, min, true, cond, List, length, take, drop, replicate, is_some, Some, None, vec_items, vec_len, Option, Vec, ◌==◌, ◌≢◌, slice_index, slice_index_or, slice_set, refl}
+-- How the pages lie in the words: each of them is its 65 places, and the words whose marks are cleared.
+use Rattle.std.specs.Prelude.{◌≡◌, ℕ, zero, suc, ◌+◌, ◌-◌, ◌*◌, ◌<◌, ◌≤◌, min, cond, List, length, take, drop, replicate, Some, None, vec_items, vec_len, Option, Vec, ◌==◌, slice_index, slice_index_or, slice_set, refl}
 use Rattle.std.proofs.Common.{sym, ap, ◌∙◌, ⊎_elim, arith}
 use Rattle.std.proofs.lemmas.List.{length-take, length-drop, length-set, get_or-take, get_or-drop, get_or-set_same, get_or-set_other, ext_get_or, get_or-replicate, length-replicate, with_items_is}
-use Rattle.std.proofs.lemmas.List.FromFn.{length-map-range_with_len, get_or-map-range_with_len}
-use Rattle.std.proofs.lemmas.Bool.{both_ways, cases_lt, cond-true, cond-false, eq-eqb, ne_eqb}
+use Rattle.std.proofs.lemmas.Bool.{cases_lt}
 use Rattle.std.specs.Vec.{with_items}
 use Rattle.page_store.specs.Pages.{Words, at}
-use Rattle.page_store.proofs.Counting.{held_below}
 use Rattle.array_store.specs.Layout.{page_at, pages_of, cleared}
-
-pub length_pages : (ws : List ℕ) (n : ℕ) → length (pages_of ws n) ≡ n
-unfolding pages_of
-length_pages ws n = length-map-range_with_len (page_at ws) 0 n
-
-pub at_pages : (ws : List ℕ) (n p : ℕ) → p < n → at (pages_of ws n) p ≡ page_at ws p
-unfolding pages_of
-at_pages ws n p h = get_or-map-range_with_len (page_at ws) 0 n p p None h (omega arith)
+use Rattle.array_store.specs.Laws.{length_pages, at_pages, page_free}
 
 pub at_pages_seen : {us ws : List ℕ} → us ≡ ws → (n p : ℕ) → p < n → at (pages_of ws n) p ≡ page_at us p
 at_pages_seen {us} {ws} e n p h = at_pages ws n p h ∙ sym (ap (λ (vs : List ℕ). page_at vs p) e)
-
--- A page that is held lies below the number of pages.
-pub held_within : (ws : List ℕ) (n p : ℕ) → is_some (at (pages_of ws n) p) ≡ true → p < n
-held_within ws n p h = let l = length_pages ws n in omega (arith, held_below (pages_of ws n) p h)
-
-page_free : (ws : List ℕ) (p : ℕ) → slice_index ws (65 * p) ≡ 0 → page_at ws p ≡ None
-page_free ws p e = cond-true _ _ _ (eq-eqb _ _ e)
-
-pub page_held : (ws : List ℕ) (p : ℕ) → (slice_index ws (65 * p) ≢ 0) → page_at ws p ≡ Some (take 64 (drop (65 * p + 1) ws))
-page_held ws p e = cond-false _ _ _ (ne_eqb _ _ e)
-
-pub held_mark : (ws : List ℕ) (p : ℕ) → is_some (page_at ws p) ≡ true → slice_index ws (65 * p) ≢ 0
-held_mark ws p h z = both_ways (is_some (page_at ws p)) (ap is_some (page_free ws p z)) h
-
--- A held page has 64 words.
-pub page_whole : (ws : List ℕ) (n p : ℕ) (w : Words) → 65 * n ≤ length ws → at (pages_of ws n) p ≡ Some w → length w ≡ 64
-page_whole ws n p w room e =
-    let l = held_within ws n p (ap is_some e) in
-    let f = at_pages ws n p l in
-    let h : is_some (page_at ws p) ≡ true = ap is_some (sym f ∙ e) in
-    let g = page_held ws p (held_mark ws p h) in
-    let same : w ≡ take 64 (drop (65 * p + 1) ws) = cc in
-    ap length same ∙ length-take 64 (drop (65 * p + 1) ws) ∙ (let d = length-drop (65 * p + 1) ws in omega arith)
 
 -- The words of a page depend on its 64 places alone, and the page on its 65.
 words_same : (us vs : List ℕ) (a : ℕ) → length vs ≡ length us
