@@ -1,6 +1,6 @@
 -- Four words, and the keys that lists of them stand for.
 use Rattle.std.specs.Prelude.{◌≡◌, ℕ, true, List, [], ◌∷◌, is_some, Some, None, Option, slice_index}
-use Rattle.std.specs.List.{AllByRecursion as All}
+use Rattle.std.specs.List.{AllByRecursion}
 use Rattle.key_class.specs.Class.{Growing}
 
 -- What four words give; any other number of words gives nothing.
@@ -17,7 +17,7 @@ abbrev pub of_four : {X : Type 0} → (ℕ → ℕ → ℕ → ℕ → X) → Li
 of_four f ws = f (slice_index ws 0) (slice_index ws 1) (slice_index ws 2) (slice_index ws 3)
 
 abbrev pub AllKeys : {K : Type 0} → Growing K → List (List ℕ) → Type 0
-AllKeys G ws = All (λ w. is_some (G.unsqueeze w) ≡ true) ws
+AllKeys G ws = AllByRecursion (λ w. is_some (G.unsqueeze w) ≡ true) ws
 
 abbrev pub with_key : {K : Type 0} → Option K → List K → List K
 with_key None ks = ks
