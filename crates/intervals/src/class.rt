@@ -1,4 +1,4 @@
-ghost use Rattle.std.specs.Prelude.{◌≡◌, true, Decides};
+ghost use Rattle.std.specs.Prelude.{◌≡◌, true, Decides, refl};
 ghost use Rattle.std.specs.Result.{result_map_both};
 ghost use Rattle.key_class.specs.Words.{of_four};
 ghost use Rattle.intervals.specs.Intervals.{covers, meets, matches, union, read_interval, interval_growing, interval_class};
@@ -6,7 +6,6 @@ ghost use Rattle.intervals.specs.Points.{Contains, Fulfils};
 ghost use Rattle.intervals.specs.declared.interval.IntervalQuery.TheVariants.{Meets, Inside};
 ghost use Rattle.intervals.specs.Laws.{interval_coded, covers_itself, covers_through, union_first, union_second, holds_match, holds_above};
 ghost use Rattle.intervals.specs.Ranking.{split_shares};
-ghost use Rattle.std.proofs.Common.{rules, arith};
 
 use crate::interval::{Interval, IntervalQuery};
 use crate::ranks::split_by_rank;
@@ -91,7 +90,7 @@ impl KeyClass for Interval {
 
     ghost class = { interval_class };
 
-    ghost tied = { first_of (Prim.search rules, Prim.grind (arith, Self.row.coded.inj)) };
+    ghost tied = { refl };
 
     ghost lawful = { record {
       covers_itself = covers_itself;

@@ -4,4 +4,3 @@ pub mod Joining
 pub mod Sets
 pub mod Reading
 pub mod Covering
-pub mod Below

@@ -1,14 +1,10 @@
 ghost use Rattle.std.specs.Prelude.{◌≡◌, ℕ, true, ◌||◌, refl};
-ghost use Rattle.std.proofs.Common.{ap};
 ghost use Rattle.key_class.specs.Words.{of_four};
 ghost use Rattle.member_sets.specs.Members.{member};
 ghost use Rattle.member_sets.specs.Joining.{members_of};
 ghost use Rattle.member_sets.specs.Sets.{covers, union, read_key, set_growing, set_class};
 ghost use Rattle.member_sets.specs.declared.key.SetQuery.TheVariants.{HasAll, SharesMember, LiesWithin};
-ghost use Rattle.std.specs.Result.{result_ok};
-ghost use Rattle.key_class.proofs.Coding.{four_only};
-ghost use Rattle.member_sets.specs.Sets;
-ghost use Rattle.member_sets.specs.Reading.{read_made, read_only};
+ghost use Rattle.member_sets.specs.Reading.{set_coded};
 ghost use Rattle.key_class.proofs.Sharing.{quadratic_shares};
 ghost use Rattle.member_sets.specs.Covering.{contains_itself, contains_through, either_first, either_second, held_above, match_above};
 
@@ -55,11 +51,7 @@ impl SetQuery {
 impl Key for SetKey {
     ghost growing = { set_growing };
 
-    ghost coded = { record {
-      four_words = λ k. refl;
-      round_trip = λ k. ap result_ok (read_made k k.members refl);
-      only_squeezed = four_only (λ a b c d. result_ok (read_key a b c d)) Sets.squeeze read_only;
-    } };
+    ghost coded = { set_coded };
 
     // Beyond the interface: its members are those of either, and no smaller key covers both.
     fn union(&self, other: &SetKey) -> SetKey

@@ -1,6 +1,6 @@
--- The laws of the class, and what its tests say of the points.
-use Rattle.std.specs.Prelude.{◌≡◌, ℕ, ◌^◌, ◌<◌, Bool, true, false, cond, ◌&&◌, T, List, [], ◌∷◌, ℤ, ◌≤ℤ◌, Some, None, Ok, Decides, int_le, nat_lt, refl}
-use Rattle.std.proofs.Common.{ap, sym, subst, ◌∙◌, arith, of_z}
+-- The laws of the class.
+use Rattle.std.specs.Prelude.{◌≡◌, ℕ, ◌^◌, ◌<◌, Bool, true, false, cond, ◌&&◌, T, [], ◌∷◌, ℤ, ◌≤ℤ◌, Some, None, Ok, int_le, nat_lt, refl}
+use Rattle.std.proofs.Common.{ap, ◌∙◌, arith, of_z}
 use mathlib.Core.HLevel.{is_prop→PathP}
 use Rattle.std.proofs.Math.Bridge.{le_prop}
 use Rattle.std.proofs.Math.Dec.{T_prop}
@@ -14,10 +14,9 @@ use Rattle.key_class.proofs.Coding.{none_some, four_only}
 use Rattle.rectangles.specs.declared.rectangle.Rectangle.{Rectangle}
 use Rattle.rectangles.specs.declared.rectangle.RectangleQuery.{RectangleQuery}
 use Rattle.rectangles.specs.declared.rectangle.RectangleQuery.TheVariants.{Meets, Inside, HoldsPoint}
-use Rattle.rectangles.specs.Signed.{signed, le_from}
+use Rattle.rectangles.specs.Signed.{signed, le_from, word_fits, signed_back, word_back}
 use Rattle.rectangles.specs.Rectangles.{covers, meets, holds_point, union, squeeze, rectangle_if, read_rectangle, words_fit, key_of, matches, may_hold, rectangle_growing}
-use Rattle.rectangles.specs.Points.{Holds, Contains, Touch, Fulfils}
-use Rattle.rectangles.specs.Corners.{word_fits, signed_back, word_back}
+use Rattle.rectangles.specs.Points.{Holds}
 
 -- Rectangles with the same corners are the same.
 ≤ℤ_prop : {a b : ℤ} → IsProp (a ≤ℤ b)
@@ -107,34 +106,34 @@ pub rectangle_coded : Coded rectangle_growing
 rectangle_coded = record { four_words = λ k. refl; round_trip = round_trip; only_squeezed = four_only key_of squeeze only_words }
 
 -- Covering, meeting and holding, corner by corner.
-abbrev Inner : Rectangle → Rectangle → Type 0
+abbrev pub Inner : Rectangle → Rectangle → Type 0
 Inner a b = (a.left ≤ℤ b.left) × (b.right ≤ℤ a.right) × (a.bottom ≤ℤ b.bottom) × (b.top ≤ℤ a.top)
 
-inner : (a b : Rectangle) → covers a b ≡ true → Inner a b
+pub inner : (a b : Rectangle) → covers a b ≡ true → Inner a b
 inner a b = four_le a.left b.left b.right a.right a.bottom b.bottom b.top a.top
 
-covered : (a b : Rectangle) → Inner a b → covers a b ≡ true
+pub covered : (a b : Rectangle) → Inner a b → covers a b ≡ true
 covered a b h = le_four a.left b.left b.right a.right a.bottom b.bottom b.top a.top h.0 h.1 h.2 h.3
 
-abbrev Close : Rectangle → Rectangle → Type 0
+abbrev pub Close : Rectangle → Rectangle → Type 0
 Close a b = (a.left ≤ℤ b.right) × (b.left ≤ℤ a.right) × (a.bottom ≤ℤ b.top) × (b.bottom ≤ℤ a.top)
 
-close : (a b : Rectangle) → meets a b ≡ true → Close a b
+pub close : (a b : Rectangle) → meets a b ≡ true → Close a b
 close a b = four_le a.left b.right b.left a.right a.bottom b.top b.bottom a.top
 
-meeting : (a b : Rectangle) → Close a b → meets a b ≡ true
+pub meeting : (a b : Rectangle) → Close a b → meets a b ≡ true
 meeting a b h = le_four a.left b.right b.left a.right a.bottom b.top b.bottom a.top h.0 h.1 h.2 h.3
 
-holding : (a : Rectangle) (x y : ℤ) → holds_point a x y ≡ true → Holds a x y
+pub holding : (a : Rectangle) (x y : ℤ) → holds_point a x y ≡ true → Holds a x y
 holding a x y = four_le a.left x x a.right a.bottom y y a.top
 
-held : (a : Rectangle) (x y : ℤ) → Holds a x y → holds_point a x y ≡ true
+pub held : (a : Rectangle) (x y : ℤ) → Holds a x y → holds_point a x y ≡ true
 held a x y h = le_four a.left x x a.right a.bottom y y a.top h.0 h.1 h.2 h.3
 
-through : (a b c : ℤ) → a ≤ℤ b → b ≤ℤ c → a ≤ℤ c
+pub through : (a b c : ℤ) → a ≤ℤ b → b ≤ℤ c → a ≤ℤ c
 through a b c h k = omega (arith, ints)
 
-itself : (a : ℤ) → a ≤ℤ a
+pub itself : (a : ℤ) → a ≤ℤ a
 itself a = omega (arith, ints)
 
 min_first : (a b : ℤ) → int_min a b ≤ℤ a
@@ -143,17 +142,11 @@ min_first a b = omega (arith, ints, clamps)
 min_second : (a b : ℤ) → int_min a b ≤ℤ b
 min_second a b = omega (arith, ints, clamps)
 
-max_first : (a b : ℤ) → a ≤ℤ int_max a b
+pub max_first : (a b : ℤ) → a ≤ℤ int_max a b
 max_first a b = omega (arith, ints, clamps)
 
-max_second : (a b : ℤ) → b ≤ℤ int_max a b
+pub max_second : (a b : ℤ) → b ≤ℤ int_max a b
 max_second a b = omega (arith, ints, clamps)
-
-min_least : (a b u : ℤ) → u ≤ℤ a → u ≤ℤ b → u ≤ℤ int_min a b
-min_least a b u h k = omega (arith, ints, clamps)
-
-max_least : (a b u : ℤ) → a ≤ℤ u → b ≤ℤ u → int_max a b ≤ℤ u
-max_least a b u h k = omega (arith, ints, clamps)
 
 -- The laws.
 pub covers_itself : (a : Rectangle) → covers a a ≡ true
@@ -170,12 +163,6 @@ union_first a b = covered (union a b) a (min_first a.left b.left, max_first a.ri
 
 pub union_second : (a b : Rectangle) → covers (union a b) b ≡ true
 union_second a b = covered (union a b) b (min_second a.left b.left, max_second a.right b.right, min_second a.bottom b.bottom, max_second a.top b.top)
-
-pub union_least : (a b u : Rectangle) → covers u a ≡ true → covers u b ≡ true → covers u (union a b) ≡ true
-union_least a b u h k =
-    let p = inner u a h in
-    let q = inner u b k in
-    covered u (union a b) (min_least _ _ _ p.0 q.0, max_least _ _ _ p.1 q.1, min_least _ _ _ p.2 q.2, max_least _ _ _ p.3 q.3)
 
 meets_above : (a b q : Rectangle) → covers a b ≡ true → meets b q ≡ true → meets a q ≡ true
 meets_above a b q h k =
@@ -203,41 +190,3 @@ pub holds_above : (a b : Rectangle) (q : RectangleQuery) → covers a b ≡ true
 holds_above a b (Meets q) h k = meets_above a b q h k
 holds_above a b (Inside q) h k = meets_above a b q h k
 holds_above a b (HoldsPoint x y) h k = point_above a b x y h k
-
--- What the tests say of the points; the lower left and the upper right corner are points of a rectangle.
-pub covers_points : (a b : Rectangle) → Decides (covers a b) (Contains a b)
-covers_points a b = (
-  (λ h x y k.
-      let p = inner a b h in
-      (through _ _ _ p.0 k.0, through _ _ _ k.1 p.1, through _ _ _ p.2 k.2, through _ _ _ k.3 p.3)),
-  (λ f.
-      let p = f b.left b.bottom (itself b.left, b.across, itself b.bottom, b.upward) in
-      let q = f b.right b.top (b.across, itself b.right, b.upward, itself b.top) in
-      covered a b (p.0, q.1, p.2, q.3)),
-)
-
-meets_points : (a b : Rectangle) → Decides (meets a b) (Touch a b)
-meets_points a b = (
-  (λ h.
-      let p = close a b h in (
-        int_max a.left b.left,
-        int_max a.bottom b.bottom,
-        (max_first a.left b.left, max_least _ _ _ a.across p.1, max_first a.bottom b.bottom, max_least _ _ _ a.upward p.3),
-        (max_second a.left b.left, max_least _ _ _ p.0 b.across, max_second a.bottom b.bottom, max_least _ _ _ p.2 b.upward),
-      )),
-  (λ t.
-      let p = t.2 in
-      let q = t.3 in
-      meeting a b (through _ _ _ p.0 q.1, through _ _ _ q.0 p.1, through _ _ _ p.2 q.3, through _ _ _ q.2 p.3)),
-)
-
-matches_points : (a : Rectangle) (q : RectangleQuery) → Decides (matches a q) (Fulfils a q)
-matches_points a (Meets q) = meets_points a q
-matches_points a (Inside q) = covers_points q a
-matches_points a (HoldsPoint x y) = (holding a x y, held a x y)
-
-pub matched : (a : Rectangle) (q p : RectangleQuery) (r : Bool) → q ≡ p → r ≡ matches a p
-    → record { value : r ≡ matches a q; points : Decides r (Fulfils a q) }
-matched a q p r e h =
-    let v : r ≡ matches a q = h ∙ ap (matches a) (sym e) in
-    record { value = v; points = subst (λ t. Decides t (Fulfils a q)) (sym v) (matches_points a q) }

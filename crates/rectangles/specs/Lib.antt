@@ -2,4 +2,3 @@ pub mod Signed
 pub mod Rectangles
 pub mod Points
 pub mod Laws
-pub mod Corners

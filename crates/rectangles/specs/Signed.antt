@@ -1,10 +1,10 @@
 -- Signed numbers of 32 bits, and what it takes to state rectangles of them.
 use Rattle.std.specs.Prelude.{◌≡◌, ℕ, ◌%◌, ◌^◌, ◌<◌, Bool, true, false, cond, T, ℤ, ◌≤ℤ◌, int_le, int_lt}
-use Rattle.std.proofs.Common.{sym, subst, mod-lt, arith, to_z}
+use Rattle.std.proofs.Common.{sym, subst, mod-lt, arith, to_z, ap, ◌∙◌, mod-eq_of_lt, of_z}
 use Rattle.std.specs.Int.Signed.{mag}
-use Rattle.std.proofs.Math.Facts.{sfits_to_z}
+use Rattle.std.proofs.Math.Facts.{sfits_to_z, Fits-of_z}
 use Rattle.std.specs.Int.{int_min, int_max, w32}
-use Rattle.std.proofs.lemmas.Int.{ints, clamps}
+use Rattle.std.proofs.lemmas.Int.{ints, clamps, to_z-of_z, of_z-to_z}
 
 -- The number that a word stands for in two's complement.
 abbrev pub signed : ℕ → ℤ
@@ -28,3 +28,20 @@ fits_min a b h k = fits_cond (int_lt b a) b a k h
 
 pub fits_max : (a b : ℤ) → mag a < 2 ^ 31 → mag b < 2 ^ 31 → mag (int_max a b) < 2 ^ 31
 fits_max a b h k = fits_cond (int_lt b a) a b h k
+
+-- Words and back.
+pub back : (z : ℤ) → mag z < 2 ^ 31 → to_z w32 (of_z w32 z) ≡ z
+back z h = to_z-of_z w32 z (record { sfits = h })
+
+pub word_fits : (z : ℤ) → mag z < 2 ^ 31 → of_z w32 z < 2 ^ 32
+word_fits z h = (Fits-of_z {w = w32} {z = z} (record { sfits = h })).fits
+
+-- A word of 32 bits needs no reduction.
+pub signed_is : (n : ℕ) → n < 2 ^ 32 → signed n ≡ to_z w32 n
+signed_is n h = ap (to_z w32) (mod-eq_of_lt h)
+
+pub signed_back : (z : ℤ) → mag z < 2 ^ 31 → signed (of_z w32 z) ≡ z
+signed_back z h = signed_is (of_z w32 z) (word_fits z h) ∙ back z h
+
+pub word_back : (n : ℕ) → n < 2 ^ 32 → of_z w32 (signed n) ≡ n
+word_back n h = ap (of_z w32) (signed_is n h) ∙ of_z-to_z w32 n h

@@ -1,4 +1,4 @@
-ghost use Rattle.std.specs.Prelude.{◌≡◌, true, Decides};
+ghost use Rattle.std.specs.Prelude.{◌≡◌, true, Decides, refl};
 ghost use Rattle.std.specs.Result.{result_map_both};
 ghost use Rattle.key_class.specs.Words.{of_four};
 ghost use Rattle.rectangles.specs.Rectangles.{covers, meets, holds_point, union, area, matches, read_rectangle, read_point, rectangle_growing, rectangle_class};
@@ -6,7 +6,6 @@ ghost use Rattle.rectangles.specs.Points.{Contains, Fulfils};
 ghost use Rattle.rectangles.specs.declared.rectangle.RectangleQuery.TheVariants.{Meets, Inside};
 ghost use Rattle.rectangles.specs.Laws.{rectangle_coded, covers_itself, covers_through, union_first, union_second, holds_match, holds_above};
 ghost use Rattle.key_class.proofs.Sharing.{quadratic_shares};
-ghost use Rattle.std.proofs.Common.{rules, arith};
 
 use crate::axis::{contains, overlaps};
 use crate::rectangle::{Rectangle, RectangleQuery};
@@ -130,7 +129,7 @@ impl KeyClass for Rectangle {
 
     ghost class = { rectangle_class };
 
-    ghost tied = { first_of (Prim.search rules, Prim.grind (arith, Self.row.coded.inj)) };
+    ghost tied = { refl };
 
     ghost lawful = { record {
       covers_itself = covers_itself;

@@ -1,6 +1,7 @@
 use Rattle.std.proofs.Common.{suc, [], get_or, ap, ◌∙◌, arith, take_all}
 use Rattle.intervals.specs.Ranks.{below}
-use Rattle.intervals.specs.Ranking.{lows, length_lows, leb_one, below_more}
+use Rattle.intervals.specs.Ranking.{leb_one}
+use Rattle.intervals.proofs.Marking.{lows, length_lows, below_more}
 use Rattle.intervals.proofs.ranks.below.Goals as goal
 use Rattle.intervals.proofs.ranks.below.Goals.{then-from-bound, else-from-bound}
 
@@ -9,8 +10,8 @@ loop-w-preserved c =
     let e = below_more c.args.bound c.args.words.now c.loop-w.w-index c.loop-w-test.true in
     let t = leb_one (suc (get_or (get_or c.args.words.now c.loop-w.w-index []) 0 0)) c.args.bound in
     elim c.if-from-bound.branch [
-      | then-from-bound w ↦ (omega (arith, w.count_is), omega (arith, w.count_is, w.if-from-bound.true))
-      | else-from-bound w ↦ (omega (arith, w.count_is), omega (arith, w.count_is, w.if-from-bound.false))
+      | then-from-bound w ↦ (omega (arith, w.count-is), omega (arith, w.count-is, w.if-from-bound.true))
+      | else-from-bound w ↦ (omega (arith, w.count-is), omega (arith, w.count-is, w.if-from-bound.false))
     ]
 
 pub returns : goal.returns

@@ -1,6 +1,6 @@
 use Rattle.std.proofs.Common.{◌≡◌, ◌≤◌, take}
 use Rattle.intervals.specs.Ranks.{below}
-use Rattle.intervals.specs.Ranking.{lows}
+use Rattle.intervals.proofs.Marking.{lows}
 use Rattle.intervals.proofs.ranks.below.Given as goal
 
 abbrev pub invariant-loop-w : goal.invariant-loop-w

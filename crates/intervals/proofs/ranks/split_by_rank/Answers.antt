@@ -1,6 +1,6 @@
 use Rattle.std.proofs.Common.{ℕ, ◌/◌, leb, [], map, length, sym, refl, ap, ◌∙◌, arith, length-set}
 use Rattle.intervals.specs.Ranks.{ranks_from}
-use Rattle.intervals.specs.Ranking.{lows, length_lows, rank_parts, marks_more, all_marked}
+use Rattle.intervals.proofs.Marking.{lows, length_lows, rank_parts, marks_more, all_marked}
 use Rattle.intervals.proofs.ranks.split_by_rank.Goals as goal
 
 pub loop-i-init : goal.loop-i-init

@@ -1,6 +1,6 @@
 use Rattle.std.proofs.Common.{◌≡◌, leb, ◌++◌, map, length, take, drop}
 use Rattle.intervals.specs.Ranks.{ranks_from, by_rank}
-use Rattle.intervals.specs.Ranking.{lows}
+use Rattle.intervals.proofs.Marking.{lows}
 use Rattle.intervals.proofs.ranks.split_by_rank.Given as goal
 
 abbrev pub invariant-loop-i : goal.invariant-loop-i

@@ -1,6 +1,7 @@
 use Rattle.std.proofs.Common.{◌≡◌, true, sym, subst, rules}
 use Rattle.intervals.specs.Intervals.{covers, union}
-use Rattle.intervals.specs.Laws.{same_interval, union_least}
+use Rattle.intervals.specs.Laws.{same_interval}
+use Rattle.intervals.proofs.Points.{union_least}
 use Rattle.intervals.proofs.class.IntervalKey.union.Goals as goal
 
 pub returns : goal.returns

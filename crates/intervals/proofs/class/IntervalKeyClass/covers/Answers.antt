@@ -1,6 +1,6 @@
 use Rattle.std.proofs.Common.{Decides, sym, subst}
 use Rattle.intervals.specs.Points.{Contains}
-use Rattle.intervals.specs.Laws.{covers_points}
+use Rattle.intervals.proofs.Points.{covers_points}
 use Rattle.intervals.proofs.class.IntervalKeyClass.covers.Goals as goal
 
 pub returns : goal.returns

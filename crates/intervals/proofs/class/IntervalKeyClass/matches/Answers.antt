@@ -1,4 +1,4 @@
-use Rattle.intervals.specs.Laws.{matched}
+use Rattle.intervals.proofs.Points.{matched}
 use Rattle.intervals.proofs.class.IntervalKeyClass.matches.Goals as goal
 
 pub returns-in-Meets : goal.returns-in-Meets

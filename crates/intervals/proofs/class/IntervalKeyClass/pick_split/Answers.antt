@@ -2,7 +2,7 @@ use Rattle.std.proofs.Common.{ℕ, take, ap, ◌∙◌, arith}
 use Rattle.key_class.proofs.Coding.{read}
 use Rattle.intervals.specs.Ranks.{by_rank}
 use Rattle.intervals.specs.Laws.{interval_coded}
-use Rattle.intervals.specs.Ranking.{lows_squeezed}
+use Rattle.intervals.proofs.Marking.{lows_squeezed}
 use Rattle.intervals.proofs.class.IntervalKeyClass.pick_split.Goals as goal
 
 pub returns-then-words-gt15 : goal.returns-then-words-gt15

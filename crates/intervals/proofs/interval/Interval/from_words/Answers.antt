@@ -1,4 +1,4 @@
-use Rattle.std.proofs.Common.{get_or, Ok, sym, ◌∙◌}
+use Rattle.std.proofs.Common.{get_or, sym, ◌∙◌}
 use native.Mathlib.Decide.{dec_le}
 use Rattle.key_class.proofs.Coding.{unused_passed}
 use Rattle.intervals.specs.Laws.{in_order}

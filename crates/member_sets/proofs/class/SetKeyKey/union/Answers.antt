@@ -6,7 +6,7 @@ use Rattle.member_sets.specs.Reading.{same_key}
 use Rattle.member_sets.proofs.class.SetKeyKey.union.Goals as goal
 
 pub invariant_of-result : goal.invariant_of-result
-invariant_of-result c = (ap has_member c.either.ensures ∙ either_some c.args.self.now.members c.args.other.now.members c.args.self.now.some, tt)
+invariant_of-result c = record { some = ap has_member c.either.ensures ∙ either_some c.args.self.now.members c.args.other.now.members c.args.self.now.some }
 
 pub returns : goal.returns
 returns c = record {

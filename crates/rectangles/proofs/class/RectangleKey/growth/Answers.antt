@@ -1,6 +1,6 @@
 use Rattle.std.proofs.Common.{◌≡◌, ap, ◌∙◌, arith}
 use Rattle.rectangles.specs.Rectangles.{area, union}
-use Rattle.rectangles.specs.Corners.{area_le}
+use Rattle.rectangles.proofs.Corners.{area_le}
 use Rattle.rectangles.proofs.class.RectangleKey.growth.Goals as goal
 
 grown : (c : goal.After-area-2) → c.area.result ≡ area (union c.args.self.now c.args.other.now)

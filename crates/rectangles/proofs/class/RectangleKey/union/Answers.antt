@@ -1,7 +1,8 @@
 use Rattle.std.proofs.Common.{◌≡◌, true, sym, subst}
 use Rattle.rectangles.specs.Rectangles.{covers, union}
-use Rattle.rectangles.specs.Corners.{min_via, max_via, le_at, fits_at}
-use Rattle.rectangles.specs.Laws.{same_rectangle, union_least}
+use Rattle.rectangles.proofs.Corners.{min_via, max_via, le_at, fits_at}
+use Rattle.rectangles.specs.Laws.{same_rectangle}
+use Rattle.rectangles.proofs.Points.{union_least}
 use Rattle.rectangles.proofs.class.RectangleKey.union.Goals as goal
 
 pub invariant_of-result : goal.invariant_of-result
@@ -13,7 +14,14 @@ invariant_of-result c =
     let r = max_via c.max.result a.right b.right a.east b.east c.max.ensures.value in
     let t = max_via c.max-2.result a.top b.top a.north b.north c.max-2.ensures.value in
     let u = union a b in
-    (le_at _ _ _ _ l r u.across, (le_at _ _ _ _ d t u.upward, (fits_at _ _ l u.west, (fits_at _ _ d u.south, (fits_at _ _ r u.east, (fits_at _ _ t u.north, tt))))))
+    record {
+      across = le_at _ _ _ _ l r u.across;
+      upward = le_at _ _ _ _ d t u.upward;
+      west = fits_at _ _ l u.west;
+      south = fits_at _ _ d u.south;
+      east = fits_at _ _ r u.east;
+      north = fits_at _ _ t u.north;
+    }
 
 pub returns : goal.returns
 returns c =

@@ -1,6 +1,6 @@
 use Rattle.std.proofs.Common.{Decides, sym, subst}
 use Rattle.rectangles.specs.Points.{Contains}
-use Rattle.rectangles.specs.Laws.{covers_points}
+use Rattle.rectangles.proofs.Points.{covers_points}
 use Rattle.rectangles.proofs.class.RectangleKeyClass.covers.Goals as goal
 
 pub returns : goal.returns

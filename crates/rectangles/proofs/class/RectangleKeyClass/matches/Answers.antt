@@ -1,6 +1,6 @@
 use Rattle.std.proofs.Common.{◌≡◌, refl, rules}
 use Rattle.rectangles.specs.Rectangles.{matches}
-use Rattle.rectangles.specs.Laws.{matched}
+use Rattle.rectangles.proofs.Points.{matched}
 use Rattle.rectangles.proofs.class.RectangleKeyClass.matches.Goals as goal
 
 pub returns-in-Meets : goal.returns-in-Meets

@@ -1,6 +1,6 @@
 use Rattle.std.proofs.Common.{◌∙◌}
 use Rattle.rectangles.specs.Rectangles.{contains}
-use Rattle.rectangles.specs.Corners.{test_via, both_tests}
+use Rattle.rectangles.proofs.Corners.{test_via, both_tests}
 use Rattle.rectangles.proofs.rectangle.Rectangle.contains.Goals as goal
 
 pub returns-then-contains : goal.returns-then-contains

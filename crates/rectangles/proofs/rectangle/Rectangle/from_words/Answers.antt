@@ -1,5 +1,5 @@
 use Rattle.std.proofs.Common.{get_or, sym}
-use Rattle.rectangles.specs.Corners.{cast_via}
+use Rattle.rectangles.proofs.Corners.{cast_via}
 use Rattle.rectangles.specs.Laws.{read_corners}
 use Rattle.rectangles.proofs.rectangle.Rectangle.from_words.Goals as goal
 

@@ -1,26 +1,9 @@
--- Tests of the numbers below n: what they tell, and 128 numbers as four words.
-use Rattle.std.specs.Prelude.{◌≡◌, ℕ, zero, suc, ◌+◌, ◌*◌, ◌/◌, ◌%◌, ◌<◌, ◌≤◌, Bool, true, false, cond, not, ◌&&◌, ◌||◌, Decides, refl}
+-- Tests of the numbers below n: 128 numbers as four words.
+use Rattle.std.specs.Prelude.{◌≡◌, ℕ, zero, suc, ◌+◌, ◌*◌, ◌/◌, ◌%◌, ◌<◌, ◌≤◌, Bool, true, false, cond, ◌&&◌, ◌||◌, refl}
 use Rattle.std.proofs.Common.{sym, ap, ap₂, ◌∙◌, add-zero, add-suc, arith}
 use Rattle.std.proofs.Math.Nat.{add_left_comm}
-use Rattle.std.proofs.lemmas.Bool.{false≢true}
-use Rattle.std.proofs.lemmas.Bool.Decides.{Decides-below_and, Decides-below_or}
 use Rattle.member_sets.specs.declared.members.Members.{Members}
 use Rattle.member_sets.specs.Members.{bit, word, member, all_below, some_below, count_below}
-
-implies : (x y : Bool) → Decides (not x || y) (x ≡ true → y ≡ true)
-implies true y = (λ e t. e, λ f. f refl)
-implies false y = (λ e f. absurd (false≢true f), λ f. refl)
-
--- All that pass g pass f.
-pub within_tells : (n : ℕ) (f g : ℕ → Bool) → Decides (all_below n (λ k. not (g k) || f k)) ((k : ℕ) → k < n → g k ≡ true → f k ≡ true)
-unfolding all_below
-within_tells n f g =
-    Decides-below_and (λ k. not (g k) || f k) (λ k. g k ≡ true → f k ≡ true) (λ m. all_below m (λ k. not (g k) || f k))
-    (λ k. implies (g k) (f k)) refl (λ m. refl) n
-
-pub some_tells : (n : ℕ) (f : ℕ → Bool) → Decides (some_below n f) ((k : ℕ) × (k < n) × (f k ≡ true))
-unfolding some_below
-some_tells n f = Decides-below_or f (λ k. f k ≡ true) (λ m. some_below m f) (λ k. (λ e. e, λ e. e)) refl (λ m. refl) n
 
 one_at_most : (b : Bool) → cond b 1 0 ≤ 1
 one_at_most true = omega arith

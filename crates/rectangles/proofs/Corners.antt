@@ -1,30 +1,13 @@
--- Signed numbers to their words and back, and as the code passes them.
-use Rattle.std.specs.Prelude.{◌≡◌, ℕ, ◌*◌, ◌%◌, ◌^◌, ◌<◌, ◌≤◌, Bool, true, ◌&&◌, ℤ, ◌≤ℤ◌, refl}
-use Rattle.std.proofs.Common.{sym, ap, subst, ◌∙◌, mod-eq_of_lt, arith, to_z, of_z}
+-- Signed numbers as the code passes them.
+use Rattle.std.specs.Prelude.{◌≡◌, ℕ, ◌^◌, ◌<◌, ◌≤◌, Bool, true, ◌&&◌, ℤ, ◌≤ℤ◌}
+use Rattle.std.proofs.Common.{sym, ap, subst, ◌∙◌, arith, to_z, of_z}
 use Rattle.std.specs.Int.Signed.{mag}
-use Rattle.std.proofs.Math.Facts.{Fits-of_z}
 use Rattle.std.specs.Int.{int_min, int_max, w32}
 use Rattle.std.proofs.lemmas.Nat.{mul-le}
-use Rattle.std.proofs.lemmas.Int.{ints, clamps, to_z-of_z, of_z-to_z}
+use Rattle.std.proofs.lemmas.Int.{ints, clamps}
 use Rattle.rectangles.specs.declared.rectangle.Rectangle.{Rectangle}
 use Rattle.rectangles.specs.Rectangles.{area, union, span}
-use Rattle.rectangles.specs.Signed.{signed, signed_fits, fits_min, fits_max}
-
-pub back : (z : ℤ) → mag z < 2 ^ 31 → to_z w32 (of_z w32 z) ≡ z
-back z h = to_z-of_z w32 z (record { sfits = h })
-
-pub word_fits : (z : ℤ) → mag z < 2 ^ 31 → of_z w32 z < 2 ^ 32
-word_fits z h = (Fits-of_z {w = w32} {z = z} (record { sfits = h })).fits
-
--- A word of 32 bits needs no reduction.
-pub signed_is : (n : ℕ) → n < 2 ^ 32 → signed n ≡ to_z w32 n
-signed_is n h = ap (to_z w32) (mod-eq_of_lt h)
-
-pub signed_back : (z : ℤ) → mag z < 2 ^ 31 → signed (of_z w32 z) ≡ z
-signed_back z h = signed_is (of_z w32 z) (word_fits z h) ∙ back z h
-
-pub word_back : (n : ℕ) → n < 2 ^ 32 → of_z w32 (signed n) ≡ n
-word_back n h = ap (of_z w32) (signed_is n h) ∙ of_z-to_z w32 n h
+use Rattle.rectangles.specs.Signed.{signed, signed_fits, signed_is, back, fits_min, fits_max}
 
 -- What comes back of a number that was passed.
 abbrev pub via : ℤ → ℤ
