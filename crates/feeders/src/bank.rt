@@ -2,7 +2,7 @@
 ghost use Rattle.std.specs.Prelude.{◌≡◌};
 ghost use Rattle.index.specs.Parts.{store_in};
 ghost use Rattle.index.specs.Searching.{index_in};
-ghost use Rattle.host.specs.Listing.{Lists};
+ghost use Rattle.feeders.specs.Listing.{Lists};
 
 use crate::answer::Answer;
 use crate::feeder::Feeder;
