@@ -1,7 +1,7 @@
 -- A solver for permutations of lists put together: both sides are written as expressions over the same lists.
-use Rattle.std.proofs.Common.{◌≡◌, ℕ, zero, suc, Bool, true, false, cond, leb, List, [], ◌∷◌, ◌++◌, get_or, sym, refl, ap, ◌∙◌, subst}
+use Rattle.std.proofs.Common.{◌≡◌, ℕ, zero, suc, Bool, true, false, cond, leb, List, [], ◌∷◌, ◌++◌, get_or, sym, ap}
 use mathlib.Core.List.Perm
-use mathlib.Core.List.{Perm, perm_append_comm}
+use mathlib.Core.List.{Perm}
 use Rattle.std.specs.List.{flat_map}
 use Rattle.std.proofs.lemmas.List.{append_assoc, append-nil}
 use Rattle.gist.proofs.Perms.{perm_eq, perm_swap}

@@ -1,5 +1,5 @@
 -- Pages that differ, and pages that are kept.
-use Rattle.std.proofs.Common.{◌≡◌, ℕ, List, [], ◌∷◌, ◌++◌, map, sym, refl}
+use Rattle.std.proofs.Common.{◌≡◌, ℕ, List, [], ◌∷◌, ◌++◌, sym, refl}
 use mathlib.Core.List.Perm
 use mathlib.Core.List.{map-append, Perm}
 use Rattle.std.proofs.lemmas.List.{append_assoc}

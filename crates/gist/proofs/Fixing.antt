@@ -1,13 +1,13 @@
 -- The words on pages fix the tree.
-use Rattle.std.proofs.Common.{◌≡◌, ℕ, zero, suc, List, [], ◌∷◌, ◌++◌, map, length, Some, None, Option, sym, refl, ap, ◌∙◌, arith}
-use Rattle.std.specs.List.{flat_map, AllByRecursion}
+use Rattle.std.proofs.Common.{◌≡◌, ℕ, zero, suc, List, [], ◌∷◌, map, length, sym, refl, ap, ◌∙◌, arith}
+use Rattle.std.specs.List.{flat_map}
 use Rattle.page_store.specs.Pages.{Pages, at}
 use Rattle.key_class.specs.Class.{Growing, Coded}
 use Rattle.node.specs.Nodes.{Entry, node_words}
 use Rattle.node.specs.Reading.{rows, entries_in}
 use Rattle.node.proofs.Rows.{rows_of}
 use Rattle.node.proofs.Questions.{entries_back}
-use Rattle.gist.specs.Tree.{Node, Link, Tree, link_number, words_of, written_at, written_of}
+use Rattle.gist.specs.Tree.{Link, Tree, link_number, words_of, written_at, written_of}
 use Rattle.gist.specs.Theorems.{StandsOn, WordsFix}
 use Rattle.gist.proofs.Lists.{all_left, all_right}
 use Rattle.gist.proofs.Perms.{some_same}

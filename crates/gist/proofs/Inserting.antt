@@ -12,7 +12,7 @@ use Rattle.gist.specs.Tree.{Link, Tree, Gist, empty, root, Written, levels, reco
 use Rattle.gist.specs.Insert.{least_growth, Grown, split, fill, regrown, insert_under, rooted, inserted, Step, step, way_under, way, splits, new_root}
 use Rattle.gist.specs.Rules.{Between, Ruled, PageRules, root_least}
 use Rattle.gist.specs.Theorems.{numbers, Differ, InsertAdds}
-use Rattle.gist.specs.Writes.{own_pages, writes_under, root_writes, insert_writes, AddsWriting, InsertWrites}
+use Rattle.gist.specs.Writes.{own_pages, writes_under, root_writes, AddsWriting, InsertWrites}
 use Rattle.gist.proofs.Lists.{joined-++, joined_map, all_map, all-++, all_stay, all_go, all_set, all_nth, all_map_to, nth_there}
 use Rattle.gist.proofs.Perms.{perm_eq, nth_first, set_first, joined_perm, joined_stay_go}
 use Rattle.gist.proofs.Bags.{v, ∅, ◌⊕◌, bag}

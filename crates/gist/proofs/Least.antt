@@ -1,10 +1,10 @@
 -- A tree within the rules has at least so many pages.
-use Rattle.std.proofs.Common.{ℕ, zero, suc, ◌*◌, ◌≤◌, List, [], ◌∷◌, ◌++◌, length, mul-le-mul_right, arith, length-append}
+use Rattle.std.proofs.Common.{ℕ, zero, suc, ◌*◌, ◌≤◌, List, [], ◌∷◌, length, mul-le-mul_right, arith, length-append}
 use Rattle.std.specs.List.{flat_map, AllByRecursion}
 use Rattle.key_class.specs.Class.{Growing}
 use Rattle.node.specs.Nodes.{Entry}
-use Rattle.gist.specs.Tree.{Link, Tree, Gist, empty, root, levels, pages, pages_at}
-use Rattle.gist.specs.Rules.{Ruled, PageRules, least_below, least_pages}
+use Rattle.gist.specs.Tree.{Link, empty, root, pages_at}
+use Rattle.gist.specs.Rules.{Ruled, least_below}
 use Rattle.gist.specs.Theorems.{LeastPages}
 use Rattle.gist.proofs.Lists.{all_map}
 

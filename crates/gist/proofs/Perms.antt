@@ -1,11 +1,11 @@
 -- Permutations: what joined, and the places of a list, do with them.
-use Rattle.std.proofs.Common.{◌≡◌, ℕ, zero, suc, Bool, true, false, List, [], ◌∷◌, ◌++◌, map, length, set, Some, None, Option, refl, ap, ◌∙◌, arith}
+use Rattle.std.proofs.Common.{◌≡◌, ℕ, zero, suc, Bool, true, false, List, [], ◌∷◌, ◌++◌, map, length, set, Some, None, refl, ap, ◌∙◌, arith}
 use mathlib.Core.Logic.{∥∥₁_elim}
 use mathlib.Core.List.{Perm, Permᴰ}
 use mathlib.Core.List.Perm
 use mathlib.Core.List.{Perm-prop, perm_middle, perm_append_comm}
 use native.Mathlib.Nat.{ℕ_set}
-use Rattle.std.specs.List.{flat_map, insert as with_at, remove as without, slice_get}
+use Rattle.std.specs.List.{flat_map, remove as without, slice_get}
 use Rattle.std.proofs.lemmas.List.{append_assoc, append-nil}
 use Rattle.node.specs.Nodes.{stay, go}
 use Rattle.gist.proofs.Lists.{joined-++}

@@ -1,7 +1,7 @@
 -- A removal takes its record away, keeps the rules of pages, and gives pages back.
 use Rattle.std.proofs.Common.{◌≡◌, ℕ, zero, suc, ◌+◌, ◌*◌, ◌<◌, ◌≤◌, Bool, true, false, cond, eqb, leb, List, [], ◌∷◌, ◌++◌, length, set, Some, None, Option, sym, refl, ap, ◌∙◌, subst, arith, length-append, length-set}
 use mathlib.Core.List.Perm
-use mathlib.Core.List.{Perm, Nodup, perm_middle, perm_append_comm}
+use mathlib.Core.List.{Perm, perm_middle, perm_append_comm}
 use Rattle.std.specs.Option.{option_map}
 use Rattle.std.specs.List.{flat_map, insert as with_at, remove as without, AllByRecursion, slice_get}
 use Rattle.std.proofs.lemmas.List.{append-nil}

@@ -1,10 +1,10 @@
 -- A search finds what matches.
-use Rattle.std.proofs.Common.{◌≡◌, ℕ, zero, suc, Bool, true, false, cond, List, [], ◌∷◌, Some, None, filter, Option, sym, refl, ◌∙◌, subst}
+use Rattle.std.proofs.Common.{◌≡◌, ℕ, zero, suc, Bool, true, false, cond, List, [], ◌∷◌, Some, filter, sym, refl, ◌∙◌, subst}
 use Rattle.std.specs.List.{flat_map, AllByRecursion}
 use Rattle.key_class.specs.Class.{Class, Lawful}
 use Rattle.key_class.specs.Joined.{joined_onto, joined as union-all}
 use Rattle.node.specs.Nodes.{Entry, keys}
-use Rattle.gist.specs.Tree.{Link, Gist, empty, root, records_at}
+use Rattle.gist.specs.Tree.{Link, empty, root, records_at}
 use Rattle.gist.specs.Search.{found_at}
 use Rattle.gist.specs.Rules.{Ruled}
 use Rattle.gist.specs.Theorems.{SearchFinds}

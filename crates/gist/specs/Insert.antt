@@ -1,5 +1,5 @@
 -- Insert: down by the least growth, split upwards.
-use Rattle.std.specs.Prelude.{ℕ, zero, suc, ◌+◌, Bool, cond, ◌&&◌, List, [], ◌∷◌, ◌++◌, map, length, Some, None, Option, ◌==◌, nat_le, nat_lt, slice_set}
+use Rattle.std.specs.Prelude.{ℕ, zero, suc, ◌+◌, Bool, cond, List, [], ◌∷◌, ◌++◌, map, length, Some, None, Option, ◌==◌, nat_le, nat_lt, slice_set}
 use Rattle.std.specs.List.{prefix_len, slice_get}
 use Rattle.key_class.specs.Class.{Growing, Class}
 use Rattle.node.specs.Nodes.{Entry, keys, stay, go}

@@ -1,11 +1,10 @@
 -- The rules of the pages.
-use Rattle.std.specs.Prelude.{◌≡◌, ℕ, zero, suc, ◌+◌, ◌*◌, ◌≤◌, List, length, Some}
-use mathlib.Core.List.{Nodup}
+use Rattle.std.specs.Prelude.{◌≡◌, ℕ, zero, suc, ◌+◌, ◌*◌, ◌≤◌, length, Some}
 use Rattle.std.specs.List.{AllByRecursion}
 use Rattle.key_class.specs.Class.{Growing}
 use Rattle.key_class.specs.Joined.{joined}
 use Rattle.node.specs.Nodes.{Entry, keys}
-use Rattle.gist.specs.Tree.{Link, Tree, Gist, empty, root, pages}
+use Rattle.gist.specs.Tree.{Link, Gist, empty, root}
 
 abbrev pub Between : ℕ → ℕ → ℕ → Type 0
 Between low high n = (low ≤ n) × (n ≤ high)

@@ -1,12 +1,11 @@
 -- What is true of the tree, for every key class.
-use Rattle.std.specs.Prelude.{◌≡◌, ℕ, suc, ◌+◌, ◌*◌, ◌≤◌, true, cond, List, ◌∷◌, ◌++◌, map, length, Some, None, filter, Option}
+use Rattle.std.specs.Prelude.{◌≡◌, ℕ, ◌+◌, ◌*◌, ◌≤◌, cond, List, ◌∷◌, ◌++◌, map, length, Some, None, filter, Option}
 use mathlib.Core.List.{Perm, Nodup}
 use Rattle.std.specs.List.{AllByRecursion}
 use Rattle.page_store.specs.Pages.{Pages, at}
 use Rattle.key_class.specs.Class.{Growing, Class}
-use Rattle.node.specs.Nodes.{Entry}
 use Rattle.gist.specs.Tree.{Tree, Gist, Written, levels, records, pages, written, written_of}
-use Rattle.gist.specs.Insert.{inserted, Step, way, new_root, needed}
+use Rattle.gist.specs.Insert.{inserted, way, new_root, needed}
 use Rattle.gist.specs.Remove.{removed}
 use Rattle.gist.specs.Search.{found}
 use Rattle.gist.specs.Rules.{PageRules, least_pages}

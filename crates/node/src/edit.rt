@@ -72,7 +72,7 @@ impl Node {
     /// Puts an entry behind the others; false where there are twelve, and nothing changes.
     pub fn push<K: Key>(&mut self, key: &K, link: u32) -> bool
         ensures { (level : ℕ) (es : List (Entry K ℕ)) → Stands K.growing self.old level es
-            → (result ≡ nat_lt (length es) 12) × Stands K.growing self.new level (if result then (es ++ record { key = key.entry.now; link = link } ∷ []) else es) }
+            → (result ≡ nat_lt (length es) 12) × Stands K.growing self.new level (if result then (es ++ record { key = key.now; link = link } ∷ []) else es) }
     {
         self.push_words(&key.squeeze(), link)
     }
@@ -102,7 +102,7 @@ impl Node {
     /// Replaces the entry at place `i`; false where there is none, and nothing changes.
     pub fn replace<K: Key>(&mut self, i: usize, key: &K, link: u32) -> bool
         ensures { (level : ℕ) (es : List (Entry K ℕ)) → Stands K.growing self.old level es
-            → (result ≡ nat_lt i (length es)) × Stands K.growing self.new level (set es i (record { key = key.entry.now; link = link })) }
+            → (result ≡ nat_lt i (length es)) × Stands K.growing self.new level (set es i (record { key = key.now; link = link })) }
     {
         if i >= self.words[1] as usize {
             return false;

@@ -37,7 +37,7 @@ impl Pool {
     /// Puts an entry behind the others; false where there are 15, and nothing changes.
     pub fn push<K: Key>(&mut self, key: &K, link: u32) -> bool
         ensures { (es : List (Entry K ℕ)) → Pooled K.growing self.old es
-            → (result ≡ nat_lt (length es) 15) × Pooled K.growing self.new (if result then (es ++ record { key = key.entry.now; link = link } ∷ []) else es) }
+            → (result ≡ nat_lt (length es) 15) × Pooled K.growing self.new (if result then (es ++ record { key = key.now; link = link } ∷ []) else es) }
     {
         self.put(&key.squeeze(), link)
     }

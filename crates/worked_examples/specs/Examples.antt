@@ -1,5 +1,5 @@
 -- Worked examples of the definitions.
-use Rattle.std.specs.Prelude.{◌≡◌, ℕ, Bool, true, false, List, [], ◌∷◌, ◌++◌, map, length, replicate, pos, Some, None, refl}
+use Rattle.std.specs.Prelude.{◌≡◌, ℕ, true, false, [], ◌∷◌, ◌++◌, map, length, replicate, pos, Some, None}
 use Rattle.std.proofs.Common.{arith}
 use Rattle.gist.specs.Insert.{least_growth}
 use Rattle.gist.specs.Remove.{mended, removed}
@@ -15,7 +15,6 @@ use Rattle.member_sets.specs.declared.key.SetKey.{SetKey}
 use Rattle.member_sets.specs.declared.key.SetQuery.TheVariants.{HasAll, LiesWithin}
 use Rattle.member_sets.specs.declared.members.Members.{Members}
 use Rattle.rectangles.specs.Rectangles.{holds_point, rectangle_growing}
-use Rattle.rectangles.specs.Signed.{le_from}
 use Rattle.rectangles.specs.declared.rectangle.Rectangle.{Rectangle}
 use Rattle.std.specs.Option.{option_map}
 use Rattle.worked_examples.specs.Trees.{point, from, takes, points, less, page, leaf, from_30_to_40, leaf_on, entry_to, three_leaves, outline}
