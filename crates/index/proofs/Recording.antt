@@ -1,10 +1,10 @@
 -- What an index stands for after an insert and after a removal.
-use Rattle.std.proofs.Common.{◌≡◌, ℕ, suc, ◌+◌, ◌-◌, ◌<◌, ◌≤◌, min, List, [], ◌∷◌, map, length, Some, Ok, Err, sym, refl, ap, ◌∙◌, subst, arith}
+use Rattle.std.proofs.Common.{◌≡◌, ℕ, ◌+◌, ◌-◌, ◌<◌, min, Some, Ok, Err, refl, ◌∙◌, subst, arith}
 use mathlib.Core.List.Perm
 use Rattle.std.proofs.lemmas.Bool.{cond-true, lt-ltb}
-use Rattle.page_store.specs.Pages.{Pages, free_pages}
-use Rattle.key_class.specs.Class.{Growing, Coded, Class, Lawful}
-use Rattle.gist.specs.Tree.{Gist, records, pages}
+use Rattle.page_store.specs.Pages.{Pages}
+use Rattle.key_class.specs.Class.{Coded, Class, Lawful}
+use Rattle.gist.specs.Tree.{Gist}
 use Rattle.gist.specs.Insert.{inserted}
 use Rattle.gist.specs.Remove.{removed}
 use Rattle.gist.specs.Rules.{Between}
@@ -15,12 +15,12 @@ use Rattle.gist.proofs.Inserting.{writes_adding}
 use Rattle.gist.proofs.Removing.{removes_editing}
 use Rattle.tree_pages.specs.declared.root.Root.{Root}
 use Rattle.tree_pages.specs.Laid.{edited, StartsAt}
-use Rattle.tree_pages.proofs.Standing.{all_perm, stands, free_left, removed_on}
-use Rattle.insertion.specs.Whole.{Done, Into, InsertsInto}
+use Rattle.tree_pages.proofs.Standing.{all_perm, stands, removed_on}
+use Rattle.insertion.specs.Whole.{Done, InsertsInto}
 use Rattle.removal.specs.Whole.{RemovesFrom}
 use Rattle.removal.specs.declared.refusal.RemoveRefusal.{RemoveRefusal}
 use Rattle.index.specs.Standing.{record_numbers, StandsFor}
-use Rattle.index.specs.Inserting.{Inserted, Answered, Inserts}
+use Rattle.index.specs.Inserting.{Inserted, Inserts}
 use Rattle.index.specs.Removing.{Removed, Removes}
 use Rattle.index.specs.declared.shape.Shape.{Shape}
 

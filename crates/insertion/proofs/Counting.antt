@@ -1,16 +1,15 @@
 -- How many pages an insert under a node takes, and that there is room for what comes of it.
-use Rattle.std.proofs.Common.{◌≡◌, ℕ, zero, suc, ◌+◌, ◌<◌, ◌≤◌, Bool, true, false, cond, eqb, leb, List, [], ◌∷◌, ◌++◌, map, length, replicate, is_some, Some, None, Option, sym, refl, ap, ◌∙◌, subst, arith, length-append}
+use Rattle.std.proofs.Common.{◌≡◌, ℕ, suc, ◌+◌, ◌≤◌, Bool, true, false, cond, leb, List, [], ◌∷◌, ◌++◌, map, length, replicate, Some, None, Option, sym, refl, ap, ◌∙◌, subst, arith, length-append}
 use lib.ListN.{length-replicate, length-map}
 use Rattle.std.proofs.lemmas.Bool.{eqb-true, le-leb}
-use Rattle.page_store.specs.Pages.{Pages, at, free_pages}
+use Rattle.page_store.specs.Pages.{Pages, free_pages}
 use Rattle.page_store.proofs.Calling.{Held}
 use Rattle.key_class.specs.Class.{Class, Lawful}
-use Rattle.node.specs.Nodes.{Entry}
 use Rattle.gist.specs.Tree.{Tree, entry_for}
-use Rattle.gist.specs.Insert.{Grown, Step, step, way_under, splits, new_root, insert_under}
+use Rattle.gist.specs.Insert.{Grown, Step, way_under, splits, new_root}
 use Rattle.gist.specs.Writes.{writes_under}
 use Rattle.gist.proofs.Inserting.{Grew, grew}
-use Rattle.tree_pages.specs.Laid.{on_page, Lies, over}
+use Rattle.tree_pages.specs.Laid.{on_page, Lies}
 use Rattle.tree_pages.proofs.Lying.{length_on_page}
 use Rattle.tree_pages.proofs.Over.{over_held}
 use Rattle.insertion.specs.Refusals.{asked}

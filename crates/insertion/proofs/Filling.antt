@@ -1,8 +1,8 @@
 -- Entries written to one page, or to two.
-use Rattle.std.proofs.Common.{◌≡◌, ℕ, ◌+◌, ◌<◌, ◌≤◌, Bool, true, false, cond, ltb, leb, List, [], ◌∷◌, ◌++◌, length, set, is_some, Some, None, Option, sym, refl, ap, ◌∙◌, subst, arith, length-append}
+use Rattle.std.proofs.Common.{◌≡◌, ℕ, ◌+◌, ◌≤◌, Bool, true, false, cond, ltb, leb, List, [], ◌∷◌, ◌++◌, length, set, Some, None, Option, sym, ap, ◌∙◌, subst, arith}
 use Rattle.std.proofs.lemmas.List.{length_push, append-nil}
 use Rattle.std.proofs.lemmas.Bool.{ltb-true, ltb-false, le-leb, lt-ltb}
-use Rattle.page_store.specs.Pages.{Pages, Words, at, free_pages}
+use Rattle.page_store.specs.Pages.{Pages, Words, free_pages}
 use Rattle.page_store.specs.Calls.{Took}
 use Rattle.page_store.proofs.Calling.{Held, changed_held}
 use Rattle.key_class.specs.Class.{Growing, Class, Lawful}

@@ -1,8 +1,8 @@
 -- What an insert under a node comes to on pages: at a leaf, and one level up.
-use Rattle.std.proofs.Common.{◌≡◌, ℕ, zero, suc, ◌+◌, ◌<◌, ◌≤◌, Bool, true, false, cond, leb, ◌≢◌, ◌⊎◌, List, [], ◌∷◌, ◌++◌, map, length, set, is_some, Some, None, Option, sym, refl, ap, ◌∙◌, subst, inl, inr, arith, length-append}
-use mathlib.Core.List.{Nodup, Nodup-nil, Nodup-cons, not-mem-nil, map-append}
+use Rattle.std.proofs.Common.{◌≡◌, ℕ, zero, suc, ◌+◌, Bool, ◌⊎◌, List, [], ◌∷◌, ◌++◌, map, length, set, is_some, Some, None, Option, sym, refl, ap, ◌∙◌, subst, inl, inr, arith, length-append}
+use mathlib.Core.List.{Nodup-nil, Nodup-cons, not-mem-nil, map-append}
 use Rattle.std.specs.List.{AllByRecursion, slice_get}
-use Rattle.std.proofs.lemmas.List.{append_assoc, append-nil, map-set, get_or-set_same}
+use Rattle.std.proofs.lemmas.List.{append_assoc, map-set, get_or-set_same}
 use Rattle.std.proofs.lemmas.Bool.{both_ways, cond-true, cond-false, le-leb, lt-leb}
 use Rattle.page_store.specs.Pages.{Pages, Words, at, free_pages}
 use Rattle.page_store.proofs.Calling.{Held}
@@ -10,17 +10,16 @@ use Rattle.page_store.proofs.Counting.{written_free, taken_free}
 use Rattle.key_class.specs.Class.{Growing, Class}
 use Rattle.key_class.specs.Joined.{joined}
 use Rattle.node.specs.Nodes.{Entry, keys, node_words, stay, go}
-use Rattle.gist.specs.Tree.{Link, Tree, Written, link_number, words_of, union_of, entry_for}
-use Rattle.gist.specs.Insert.{Grown, split, fill, regrown, above, down, insert_under, least_growth}
+use Rattle.gist.specs.Tree.{Link, Tree, Written, union_of, entry_for}
+use Rattle.gist.specs.Insert.{Grown, fill, regrown, above, down, insert_under, least_growth}
 use Rattle.gist.specs.Writes.{own_pages, writes_under, below_by}
 use Rattle.gist.proofs.Lists.{all_map, all-++}
-use Rattle.gist.proofs.Nodes.{union_there}
 use Rattle.tree_pages.specs.Laid.{on_page, over, Free, Fresh}
 use Rattle.tree_pages.proofs.Entries.{numbered, keys_on_page, stay_on_page, go_on_page}
 use Rattle.tree_pages.proofs.Lying.{length_on_page}
 use Rattle.tree_pages.proofs.Once.{once_both}
 use Rattle.tree_pages.proofs.Over.{over-++, over_held, over_none, length_over, set_held}
-use Rattle.insertion.specs.Filling.{split_entry, OnePage, TwoPages, Split, FilledBy, Filled}
+use Rattle.insertion.specs.Filling.{split_entry, OnePage, Split, FilledBy}
 use Rattle.insertion.specs.Under.{entries_told, Inserted}
 use Rattle.insertion.specs.declared.change.Child.{Child}
 use Rattle.insertion.specs.declared.change.Change.{Change}

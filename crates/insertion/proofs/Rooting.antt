@@ -1,29 +1,27 @@
 -- An insert into a whole tree: the first leaf, a root that stays, a root that is split.
-use Rattle.std.proofs.Common.{◌≡◌, ℕ, zero, suc, ◌+◌, ◌<◌, ◌≤◌, min, Bool, true, false, cond, ◌&&◌, eqb, leb, List, [], ◌∷◌, ◌++◌, map, length, set, is_some, Some, None, Ok, Err, Option, Result, sym, refl, ap, ◌∙◌, subst, arith, length-append}
+use Rattle.std.proofs.Common.{◌≡◌, ℕ, suc, ◌+◌, ◌≤◌, min, Bool, true, false, cond, ◌&&◌, leb, List, [], ◌∷◌, ◌++◌, map, length, set, is_some, Some, None, Ok, Err, Option, Result, sym, refl, ap, ◌∙◌, subst, arith, length-append}
 use mathlib.Core.List.{Nodup, Nodup-nil, Nodup-cons, not-mem-nil}
 use lib.ListN.{length-map}
 use Rattle.std.specs.Option.{ok_or}
 use Rattle.std.specs.List.{AllByRecursion}
 use Rattle.std.proofs.lemmas.List.{append-nil, nil_from_length}
-use Rattle.std.proofs.lemmas.Bool.{cond-true, cond-false, le-leb, lt-leb, eqb-true, leb-false, and_cases}
+use Rattle.std.proofs.lemmas.Bool.{cond-true, cond-false, le-leb, lt-leb, leb-false}
 use Rattle.page_store.specs.Pages.{Pages, Words, at, free_pages}
 use Rattle.page_store.specs.Calls.{Took}
 use Rattle.page_store.proofs.Counting.{some_free}
 use Rattle.key_class.specs.Class.{Growing, Class, Lawful}
 use Rattle.node.specs.Nodes.{Entry, node_words}
-use Rattle.gist.specs.Tree.{Tree, Gist, empty, root, Written, levels, words_of, entry_for}
-use Rattle.gist.specs.Insert.{Grown, Step, way, way_under, splits, new_root, needed, rooted, inserted, insert_under}
+use Rattle.gist.specs.Tree.{Tree, Gist, empty, root, levels, words_of, entry_for}
+use Rattle.gist.specs.Insert.{Grown, Step, way_under, new_root, needed, rooted, inserted}
 use Rattle.gist.specs.Writes.{above_all, insert_writes, root_writes, writes_under, AddsWriting}
 use Rattle.gist.proofs.Inserting.{writes_adding}
 use Rattle.tree_pages.specs.Laid.{on_page, StartsAt, Lies, over, Fresh, OnPages}
 use Rattle.tree_pages.proofs.Lying.{lies_root, length_on_page}
 use Rattle.tree_pages.proofs.Standing.{stands, inserted_on}
 use Rattle.insertion.specs.Refusals.{asked}
-use Rattle.insertion.specs.Way.{Knows}
 use Rattle.insertion.specs.Filling.{split_entry}
-use Rattle.insertion.specs.Under.{entries_told, Inserted, Outcome, InsertsUnder}
+use Rattle.insertion.specs.Under.{Inserted, Outcome, InsertsUnder}
 use Rattle.insertion.specs.Whole.{Plants, Raises, Done, Into, InsertsInto}
-use Rattle.insertion.specs.declared.above.Above.{Above}
 use Rattle.insertion.specs.declared.change.Child.{Child}
 use Rattle.insertion.specs.declared.change.Change.{Change}
 use Rattle.insertion.specs.declared.refusal.InsertRefusal.{InsertRefusal}

@@ -1,10 +1,10 @@
 -- What each way out of an insert under a node shows.
-use Rattle.std.proofs.Common.{◌≡◌, ℕ, zero, suc, ◌+◌, ◌-◌, ◌^◌, ◌<◌, ◌≤◌, Bool, true, false, cond, leb, List, [], ◌∷◌, ◌++◌, map, length, set, is_some, Some, None, Ok, Err, Option, Result, sym, refl, ap, ◌∙◌, subst, arith}
+use Rattle.std.proofs.Common.{◌≡◌, ℕ, zero, suc, ◌+◌, ◌-◌, ◌^◌, ◌<◌, ◌≤◌, cond, leb, List, [], ◌∷◌, ◌++◌, length, set, is_some, Some, None, Ok, Err, Option, Result, sym, refl, ap, ◌∙◌, subst, arith}
 use Rattle.std.specs.Option.{option_map, ok_or}
 use Rattle.std.specs.List.{slice_get}
 use Rattle.std.proofs.lemmas.List.{append_assoc}
 use Rattle.std.proofs.lemmas.Bool.{le-leb, lt-leb}
-use Rattle.page_store.specs.Pages.{Pages, at, free_pages}
+use Rattle.page_store.specs.Pages.{Pages, free_pages}
 use Rattle.page_store.proofs.Calling.{Held}
 use Rattle.key_class.specs.Class.{Growing, Class, Lawful}
 use Rattle.key_class.proofs.Coding.{none_some}
@@ -14,7 +14,7 @@ use Rattle.node.specs.InMemory.{words_in, Stands}
 use Rattle.node.specs.declared.memory.Node.{Node}
 use Rattle.node.proofs.Places.{count_is}
 use Rattle.gist.specs.Tree.{Link, Tree, link_number}
-use Rattle.gist.specs.Insert.{Step, step, way_by, way_under, splits, least_growth, least}
+use Rattle.gist.specs.Insert.{Step, step, way_by, way_under, splits, least_growth}
 use Rattle.gist.proofs.Lists.{nth_there}
 use Rattle.gist.proofs.Nodes.{within}
 use Rattle.gist.proofs.Inserting.{splits_within}

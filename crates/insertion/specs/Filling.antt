@@ -1,10 +1,10 @@
 -- Entries written to a page, or shared out between it and a new page.
-use Rattle.std.specs.Prelude.{◌≡◌, ℕ, ◌+◌, ◌<◌, ◌≤◌, Bool, true, List, [], ◌∷◌, ◌++◌, length, set, is_some, Some, None, Option}
-use Rattle.page_store.specs.Pages.{Pages, Words, at, free_pages}
+use Rattle.std.specs.Prelude.{◌≡◌, ℕ, ◌+◌, ◌<◌, ◌≤◌, true, List, [], ◌∷◌, ◌++◌, length, set, is_some, Some, None, Option}
+use Rattle.page_store.specs.Pages.{Pages, at, free_pages}
 use Rattle.key_class.specs.Class.{Growing, Class}
 use Rattle.key_class.specs.Joined.{joined}
 use Rattle.node.specs.Nodes.{Entry, keys, node_words, stay, go}
-use Rattle.node.specs.InMemory.{words_in, Stands}
+use Rattle.node.specs.InMemory.{Stands}
 use Rattle.node.specs.declared.memory.Node.{Node}
 use Rattle.tree_pages.specs.Laid.{Free}
 use Rattle.insertion.specs.declared.change.Child.{Child}

@@ -1,5 +1,5 @@
 -- The refusals of an insert, their numbers, and when each is due.
-use Rattle.std.specs.Prelude.{ℕ, Bool, cond, ◌&&◌, List, length, Some, None, Option, nat_le, nat_lt}
+use Rattle.std.specs.Prelude.{ℕ, cond, ◌&&◌, List, length, Some, None, Option, nat_le, nat_lt}
 use Rattle.gist.specs.Insert.{Step, new_root, needed}
 use Rattle.insertion.specs.declared.refusal.InsertRefusal.{InsertRefusal}
 use Rattle.insertion.specs.declared.refusal.InsertRefusal.TheVariants.{NoNumberLeft, TooManyLevels, TooFewPages, NotATree}

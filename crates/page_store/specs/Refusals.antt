@@ -1,5 +1,5 @@
 -- The refusals of a page store, their numbers, and when each is due.
-use Rattle.std.specs.Prelude.{ℕ, cond, length, is_some, Some, None, Ok, Err, Option, Result, nat_lt}
+use Rattle.std.specs.Prelude.{ℕ, cond, length, is_some, Ok, Err, Result, nat_lt}
 use Rattle.page_store.specs.Pages.{Pages, at}
 use Rattle.page_store.specs.declared.refusal.StoreRefusal.{StoreRefusal}
 use Rattle.page_store.specs.declared.refusal.StoreRefusal.TheVariants.{OutOfRange, NotHeld, NoFreePage}

@@ -1,21 +1,19 @@
 -- A tree laid over pages, and another that differs from it laid over the same.
-use Rattle.std.proofs.Common.{◌≡◌, ℕ, ◌+◌, ◌<◌, ◌≢◌, List, [], ◌∷◌, ◌++◌, map, length, set, is_some, Some, None, Option, sym, refl, ap, ◌∙◌, arith}
+use Rattle.std.proofs.Common.{◌≡◌, ℕ, ◌+◌, ◌<◌, ◌≢◌, List, [], ◌∷◌, ◌++◌, length, set, Some, None, Option, sym, refl, ap, ◌∙◌, arith}
 use mathlib.Core.List.Perm
 use mathlib.Core.List.{map-append, Mem, Memᴰ, mem-cons_of_mem, mem-append_left, Nodup, Nodup-cons, Nodup-append, Perm}
 use Rattle.std.specs.List.{AllByRecursion}
 use Rattle.std.proofs.lemmas.List.{append-nil, get_or-set_same, get_or-set_other, set-get_or}
 use Rattle.page_store.specs.Pages.{Pages, Words, at, free_pages}
-use Rattle.page_store.proofs.Calling.{Held}
 use Rattle.page_store.proofs.Counting.{taken_free}
 use Rattle.gist.specs.Tree.{Written}
 use Rattle.gist.specs.Theorems.{numbers, Differ, StandsOn}
 use Rattle.gist.specs.Writes.{Edits, holding, freed}
-use Rattle.gist.proofs.Lists.{all_map, all_map₂}
 use Rattle.gist.proofs.Perms.{map_perm}
 use Rattle.gist.proofs.Bags.{v, ◌⊕◌, bag}
 use Rattle.gist.proofs.Differing.{numbers_parts}
-use Rattle.tree_pages.specs.Laid.{over, Free, Fresh}
-use Rattle.tree_pages.proofs.Once.{all_mem, first_apart}
+use Rattle.tree_pages.specs.Laid.{over, Fresh}
+use Rattle.tree_pages.proofs.Once.{first_apart}
 use Rattle.tree_pages.proofs.Over.{length_over, over_other}
 use Rattle.tree_pages.proofs.Sets.{sets, places, pages_set, sets-++, sets_perm, sets_absorb_all}
 

@@ -1,18 +1,17 @@
 -- What is known of a node that lies on pages: its own page, and the nodes below it.
-use Rattle.std.proofs.Common.{◌≡◌, ℕ, zero, suc, ◌≤◌, List, [], ◌∷◌, map, length, Some, None, Option, sym, refl, ap, ◌∙◌, arith}
+use Rattle.std.proofs.Common.{◌≡◌, ℕ, zero, suc, List, length, Some, None, refl, ap, ◌∙◌, arith}
 use lib.ListN.{length-map}
-use Rattle.std.specs.Option.{option_map}
-use Rattle.std.specs.List.{flat_map, AllByRecursion, slice_get}
+use Rattle.std.specs.List.{slice_get}
 use Rattle.std.proofs.lemmas.Bool.{cond-true, le-leb}
-use Rattle.page_store.specs.Pages.{Pages, Words, at}
+use Rattle.page_store.specs.Pages.{Pages, at}
 use Rattle.key_class.specs.Class.{Growing}
-use Rattle.node.specs.Nodes.{Entry, node_words}
+use Rattle.node.specs.Nodes.{Entry}
 use Rattle.node.specs.Reading.{count_in}
 use Rattle.node.specs.InMemory.{words_in, Stands}
 use Rattle.node.specs.declared.memory.Node.{Node}
 use Rattle.node.proofs.Places.{count_is}
-use Rattle.gist.specs.Tree.{Link, Tree, root, link_number, words_of, written_at, written_of, written}
-use Rattle.gist.specs.Rules.{Ruled, PageRules, root_least}
+use Rattle.gist.specs.Tree.{Link, Tree, root, link_number, words_of, written_at, written}
+use Rattle.gist.specs.Rules.{Ruled, PageRules}
 use Rattle.gist.specs.Theorems.{StandsOn}
 use Rattle.gist.proofs.Lists.{all_nth, joined_all}
 use Rattle.tree_pages.specs.OneNode.{adopted, loaded}

@@ -1,11 +1,10 @@
 -- Pages written over others.
-use Rattle.std.proofs.Common.{◌≡◌, ℕ, ◌+◌, ◌<◌, ◌≤◌, true, false, ◌≢◌, ◌⊎◌, List, [], ◌∷◌, ◌++◌, length, set, is_some, Some, None, Option, sym, refl, ap, ◌∙◌, subst, inl, inr, ⊎_elim, arith, length-set}
+use Rattle.std.proofs.Common.{◌≡◌, ℕ, ◌<◌, ◌≤◌, true, false, ◌≢◌, [], ◌∷◌, ◌++◌, length, set, is_some, Some, None, Option, refl, ap, ◌∙◌, ⊎_elim, length-set}
 use Rattle.std.specs.List.{AllByRecursion}
 use Rattle.std.proofs.lemmas.List.{get_or-set_same, get_or-set_other, set_past}
 use Rattle.std.proofs.lemmas.Bool.{cases_eq, cases_lt}
 use Rattle.page_store.specs.Pages.{Pages, Words, at}
 use Rattle.page_store.proofs.Calling.{Held}
-use Rattle.page_store.proofs.Counting.{none_from}
 use Rattle.gist.specs.Tree.{Written}
 use Rattle.gist.specs.Theorems.{numbers}
 use Rattle.tree_pages.specs.Laid.{over}

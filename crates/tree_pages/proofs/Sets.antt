@@ -1,6 +1,6 @@
 -- A list with elements written over it, one after the other: the order of writes to different places does not matter, and
 -- a write to a place that is written again later does not either.
-use Rattle.std.proofs.Common.{◌≡◌, ℕ, ◌≢◌, ◌⊎◌, List, [], ◌∷◌, ◌++◌, map, length, set, Some, None, Option, sym, refl, ap, ◌∙◌, inl, inr, ⊎_elim, arith, length-set}
+use Rattle.std.proofs.Common.{◌≡◌, ℕ, ◌≢◌, ◌⊎◌, List, [], ◌∷◌, ◌++◌, map, length, set, Some, None, Option, sym, refl, ap, ◌∙◌, inl, inr, ⊎_elim, length-set}
 use mathlib.Core.HLevel.{collapsible→set, ⊥_prop}
 use mathlib.Core.Logic.{∥∥₁_elim}
 use mathlib.Core.List.Perm
@@ -9,10 +9,10 @@ use native.Mathlib.Nat.{ℕ_set}
 use Rattle.std.specs.List.{AllByRecursion}
 use Rattle.std.proofs.lemmas.List.{set-set, set_comm}
 use Rattle.std.proofs.lemmas.Bool.{cases_eq}
-use Rattle.page_store.specs.Pages.{Pages, Words}
+use Rattle.page_store.specs.Pages.{Pages}
 use Rattle.gist.proofs.Perms.{none_some, some_same, map_perm}
 pub use Rattle.tree_pages.specs.Laid.{edited as sets}
-use Rattle.tree_pages.proofs.Once.{first_apart, all_mem}
+use Rattle.tree_pages.proofs.Once.{first_apart}
 
 option_set : {A : Type 0} → IsSet A → IsSet (Option A)
 option_set {A} s = collapsible→set f c

@@ -1,5 +1,5 @@
 -- What is known of a tree on pages: its pages have their words, and how many pages are free.
-use Rattle.std.proofs.Common.{◌≡◌, ℕ, ◌+◌, ◌≤◌, List, [], ◌∷◌, ◌++◌, map, length, is_some, Some, None, sym, refl, ap, ◌∙◌, subst, arith}
+use Rattle.std.proofs.Common.{◌≡◌, ℕ, ◌+◌, ◌≤◌, List, [], ◌∷◌, ◌++◌, map, length, is_some, Some, None, sym, ap, ◌∙◌, subst, arith}
 use mathlib.Core.List.Perm
 use mathlib.Core.List.{Nodup, Nodup-append, Perm}
 use lib.ListN.{length-map}
@@ -9,7 +9,7 @@ use Rattle.page_store.specs.Pages.{Pages, at, free_pages}
 use Rattle.page_store.proofs.Calling.{Held}
 use Rattle.key_class.specs.Class.{Growing, Coded, Class, Lawful}
 use Rattle.gist.specs.Tree.{Gist, Written, levels, pages, written}
-use Rattle.gist.specs.Insert.{way, needed, inserted, new_root}
+use Rattle.gist.specs.Insert.{way, needed, inserted}
 use Rattle.gist.specs.Remove.{removed}
 use Rattle.gist.specs.Theorems.{numbers, StandsOn}
 use Rattle.gist.specs.Writes.{insert_writes, remove_edits, AddsWriting, TakesEditing, Edited}

@@ -4,7 +4,7 @@ use Rattle.page_store.specs.Pages.{Pages, Words, at}
 use Rattle.page_store.specs.Calls.{changed}
 use Rattle.key_class.specs.Class.{Growing}
 use Rattle.key_class.specs.Joined.{joined}
-use Rattle.node.specs.Nodes.{Entry, keys, node_words}
+use Rattle.node.specs.Nodes.{Entry, keys}
 use Rattle.node.specs.Reading.{count_in}
 use Rattle.node.specs.InMemory.{words_in, Stands}
 use Rattle.node.specs.declared.memory.Node.{Node}

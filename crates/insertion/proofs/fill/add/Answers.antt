@@ -1,4 +1,4 @@
-use Rattle.std.proofs.Common.{◌≡◌, ◌+◌, [], ◌∷◌, ◌++◌, length, arith}
+use Rattle.std.proofs.Common.{◌≡◌, [], ◌∷◌, ◌++◌, length, arith}
 use Rattle.std.proofs.lemmas.List.{length_push}
 use Rattle.insertion.proofs.Filling.{entry, saved_none, saved, pushed_fits, pushed_full, pooled_all, pooled_one, added, filled_one}
 use Rattle.insertion.proofs.fill.add.Goals as goal

@@ -1,4 +1,4 @@
-use Rattle.std.proofs.Common.{[], ◌∷◌, ◌++◌, length, set, Some, sym, ap, ◌∙◌, arith, length-set}
+use Rattle.std.proofs.Common.{length, set, Some, sym, ap, ◌∙◌, arith, length-set}
 use Rattle.node.proofs.Places.{count_is}
 use Rattle.insertion.proofs.Filling.{entry, saved_none, saved, filled_one, regrown_one, regrown_two, room_same}
 use Rattle.insertion.proofs.fill.regrow.Goals as goal

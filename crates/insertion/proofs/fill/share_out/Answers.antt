@@ -1,7 +1,6 @@
-use Rattle.std.proofs.Common.{Some, None, sym, refl, ◌∙◌, subst}
+use Rattle.std.proofs.Common.{sym, refl, subst}
 use Rattle.page_store.specs.Pages.{Pages}
 use Rattle.page_store.proofs.Calling.{Held}
-use Rattle.tree_pages.specs.OneNode.{Saves}
 use Rattle.tree_pages.proofs.Over.{set_held}
 use Rattle.insertion.proofs.Filling.{no_union, saved_none, shared}
 use Rattle.insertion.proofs.fill.share_out.Goals as goal

@@ -1,9 +1,8 @@
-use Rattle.std.proofs.Common.{◌≡◌, ℕ, ◌-◌, Some, None, Ok, Err, sym, refl, ap, ◌∙◌, subst, arith}
-use Rattle.std.specs.Option.{ok_or}
+use Rattle.std.proofs.Common.{◌-◌, Ok, Err, sym, subst, arith}
 use Rattle.std.proofs.lemmas.Result.{err_from_is_err_and}
 use Rattle.page_store.specs.Pages.{Pages}
 use Rattle.insertion.specs.Way.{FullLeaf}
-use Rattle.insertion.specs.Filling.{Adds, Regrows}
+use Rattle.insertion.specs.Filling.{Adds}
 use Rattle.insertion.specs.Under.{InsertsUnder}
 use Rattle.insertion.proofs.Stepping.{Asked, of_full, of_none, unread, refused_leaf, done_leaf, no_place, no_child, refused_below, done_below}
 use Rattle.insertion.proofs.under.+insert_under.Goals as goal

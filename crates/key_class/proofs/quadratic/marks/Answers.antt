@@ -1,4 +1,4 @@
-use Rattle.std.proofs.Common.{◌≡◌, [], ◌++◌, length, take, sym, refl, ap, ◌∙◌, append-nil, arith, length-set}
+use Rattle.std.proofs.Common.{◌≡◌, ◌++◌, length, take, sym, refl, ap, ◌∙◌, append-nil, arith, length-set}
 use Rattle.key_class.specs.Words.{keys_of}
 use Rattle.key_class.specs.Quadratic.{marks_from, next, placed}
 use Rattle.key_class.proofs.Coding.{length_keys}

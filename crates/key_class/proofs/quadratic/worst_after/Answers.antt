@@ -1,4 +1,4 @@
-use Rattle.std.proofs.Common.{◌≡◌, sym, ◌∙◌, arith}
+use Rattle.std.proofs.Common.{sym, ◌∙◌, arith}
 use Rattle.key_class.specs.Words.{keys_of}
 use Rattle.key_class.specs.Quadratic.{worst_after}
 use Rattle.key_class.proofs.Coding.{length_keys}

@@ -1,4 +1,4 @@
-use Rattle.std.proofs.Common.{◌≡◌, ◌+◌, drop}
+use Rattle.std.proofs.Common.{◌≡◌, drop}
 use Rattle.key_class.specs.Words.{keys_of}
 use Rattle.key_class.specs.Quadratic.{worst_from, seeds_of}
 use Rattle.key_class.proofs.quadratic.worst_pair.Given as goal

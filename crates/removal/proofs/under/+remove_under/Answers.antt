@@ -1,4 +1,4 @@
-use Rattle.std.proofs.Common.{◌≡◌, ℕ, ◌+◌, ◌-◌, List, Some, None, Err, sym, ◌∙◌, subst, arith}
+use Rattle.std.proofs.Common.{◌≡◌, ℕ, ◌+◌, List, Some, None, Err, sym, ◌∙◌, subst, arith}
 use Rattle.std.specs.Option.{option_map, ok_or}
 use Rattle.node.specs.Nodes.{Entry, node_words}
 use Rattle.node.specs.InMemory.{words_in, Stands}

@@ -1,4 +1,4 @@
-use Rattle.std.proofs.Common.{◌≡◌, ℕ, Some, sym, refl, ap, ◌∙◌, subst, arith}
+use Rattle.std.proofs.Common.{◌≡◌, ℕ, Some, refl, ap, ◌∙◌, arith}
 use Rattle.page_store.specs.Calls.{changed}
 use Rattle.page_store.proofs.Calling.{write_ok, write_refused}
 use Rattle.tree_pages.proofs.nodes.save.Goals as goal

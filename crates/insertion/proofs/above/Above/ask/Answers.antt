@@ -1,6 +1,5 @@
-use Rattle.std.proofs.Common.{◌≡◌, ℕ, ◌+◌, ◌<◌, ◌⊎◌, Some, None, sym, ap, ◌∙◌, inl, inr, arith}
+use Rattle.std.proofs.Common.{sym, arith}
 use Rattle.gist.proofs.Inserting.{splits_within}
-use Rattle.insertion.specs.declared.refusal.InsertRefusal.TheVariants.{TooFewPages}
 use Rattle.insertion.proofs.Asking.{Ways, too_many, too_few, enough, as_root, below_root}
 use Rattle.insertion.proofs.above.Above.ask.Goals as goal
 use Rattle.insertion.proofs.above.Above.ask.Goals.{else-new_root-via-then-new_root+else-self-ge7, else-new_root-via-else-new_root, then-new_root-2, else-new_root-2}
