@@ -1,5 +1,5 @@
 -- How a feeder's data lies on a page.
-use Rattle.std.specs.Prelude.{ℕ, List, slice_index}
+use Rattle.std.specs.Prelude.{slice_index}
 use Rattle.page_store.specs.Pages.{Words}
 use Rattle.host.specs.declared.feeder.Feeder.{Feeder}
 

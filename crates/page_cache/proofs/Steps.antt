@@ -12,11 +12,11 @@ use Rattle.page_store.proofs.Counting.{held_below}
 use Rattle.page_store.proofs.Calling.{Held, Refused, answer_same, answer_held, changed_held, changed_free}
 use Rattle.page_cache.specs.declared.slot.Slot.{Slot}
 use Rattle.page_cache.specs.declared.slot.SlotState.TheVariants.{Empty, Clean}
-use Rattle.page_cache.specs.Slots.{in_use, is_changed, keeps, blank, slot_at, kept_in, Apart}
+use Rattle.page_cache.specs.Slots.{in_use, is_changed, keeps, blank, slot_at, kept_in, Apart, Whole}
 use Rattle.page_cache.specs.Policy.{marked}
 use Rattle.page_cache.specs.Over.{over, Fair, Tied}
 use Rattle.page_cache.proofs.Slots.{keeps_page, keeps_own, keeps_only, no_other_keeps, which, kept_miss, kept_hit, kept_other, each_set}
-use Rattle.page_cache.specs.Laws.{length_over}
+use Rattle.page_cache.specs.Laws.{length_over, whole_over}
 use Rattle.page_cache.proofs.Laying.{free_over, held_over, over_none, over_kept, over_at, same_pages, set_pages}
 
 abbrev pub view : Pages → List Slot → Pages
@@ -163,6 +163,11 @@ gave_kept s t ks p i held e apart l tied h =
           (each_set (λ j y. keeps p y ≡ false) ks i (marked (slot_at ks i) Empty) l refl alone)
           (λ q ne. kept_other ks i q (marked (slot_at ks i) Empty) (keeps_only (slot_at ks i) p q h ne) refl),
     )
+
+-- A page that the cache means has 64 words.
+pub view_whole : (s : Pages) (ks : List Slot) (p : ℕ) (w : Words) → Apart ks → length ks ≡ 4 → Whole ks → Tied s ks
+    → ((v : Words) → at s p ≡ Some v → length v ≡ 64) → at (view s ks) p ≡ Some w → length w ≡ 64
+view_whole s ks p w apart four whole tied below e = whole_over s ks p w four whole below e
 
 -- What holds of a call below, said of the pages that the cache means.
 pub ok_over : (s : Pages) (ks : List Slot) (p : ℕ) → Held s p → Ok tt ≡ answer (view s ks) p
