@@ -1,2 +1,2 @@
-pub mod Below
+pub mod ByWords
 pub mod SingleBits

@@ -9,8 +9,8 @@ use Rattle.std.proofs.lemmas.Bool.Decides.{same_from_decides, Decides-eqb, Decid
 use Rattle.member_sets.specs.declared.members.Members.{Members}
 use Rattle.member_sets.specs.Members.{bit, all_below, some_below, count_below, has_member}
 use Rattle.member_sets.specs.BitLaws.{bit-bit_and, bit-bit_xor}
-use Rattle.member_sets.specs.Covering.{within_tells, some_tells}
-use Rattle.member_sets.proofs.Below.{some_joins, count_joins, same_below, below_add, by_words}
+use Rattle.member_sets.specs.Below.{within_tells, some_tells}
+use Rattle.member_sets.proofs.ByWords.{some_joins, count_joins, same_below, below_add, by_words}
 
 half_bit : (n i : ℕ) → bit n (1 + i) ≡ bit (n / 2) i
 half_bit n i = ap (λ m. eqb (m % 2) 1) (sym (shr-shr n 1 i))

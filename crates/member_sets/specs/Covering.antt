@@ -1,33 +1,16 @@
 -- The laws of sets, by their members.
-use Rattle.std.specs.Prelude.{◌≡◌, ℕ, ◌<◌, Bool, true, false, not, ◌&&◌, ◌||◌, Decides, refl}
+use Rattle.std.specs.Prelude.{◌≡◌, ℕ, ◌<◌, true, ◌&&◌, Decides}
 use Rattle.std.proofs.Common.{sym, ◌∙◌, ⊎_elim}
-use Rattle.std.proofs.lemmas.Bool.{false≢true, and_parts, and_from, or_left, or_right, or_cases}
-use Rattle.std.proofs.lemmas.Bool.Decides.{Decides-below_and, Decides-below_or}
+use Rattle.std.proofs.lemmas.Bool.{and_parts, and_from, or_left, or_right, or_cases}
 use Rattle.member_sets.specs.declared.members.Members.{Members}
 use Rattle.member_sets.specs.declared.key.SetKey.{SetKey}
 use Rattle.member_sets.specs.declared.key.SetQuery.{SetQuery}
 use Rattle.member_sets.specs.declared.key.SetQuery.TheVariants.{HasAll, SharesMember, LiesWithin}
-use Rattle.member_sets.specs.Members.{member, all_below, some_below, contains, shares}
+use Rattle.member_sets.specs.Members.{member, contains, shares}
 use Rattle.member_sets.specs.Joining.{either, member_either}
 use Rattle.member_sets.specs.Sets.{covers, matches, may_hold}
+use Rattle.member_sets.specs.Below.{within_tells, some_tells}
 
--- What tests of the numbers below n tell.
-implies : (x y : Bool) → Decides (not x || y) (x ≡ true → y ≡ true)
-implies true y = (λ e t. e, λ f. f refl)
-implies false y = (λ e f. absurd (false≢true f), λ f. refl)
-
--- All that pass g pass f.
-pub within_tells : (n : ℕ) (f g : ℕ → Bool) → Decides (all_below n (λ k. not (g k) || f k)) ((k : ℕ) → k < n → g k ≡ true → f k ≡ true)
-unfolding all_below
-within_tells n f g =
-    Decides-below_and (λ k. not (g k) || f k) (λ k. g k ≡ true → f k ≡ true) (λ m. all_below m (λ k. not (g k) || f k))
-    (λ k. implies (g k) (f k)) refl (λ m. refl) n
-
-pub some_tells : (n : ℕ) (f : ℕ → Bool) → Decides (some_below n f) ((k : ℕ) × (k < n) × (f k ≡ true))
-unfolding some_below
-some_tells n f = Decides-below_or f (λ k. f k ≡ true) (λ m. some_below m f) (λ k. (λ e. e, λ e. e)) refl (λ m. refl) n
-
--- Covering, sharing and joining.
 pub contains_tells : (a b : Members) → Decides (contains a b) ((k : ℕ) → k < 128 → member b k ≡ true → member a k ≡ true)
 contains_tells a b = within_tells 128 (member a) (member b)
 

@@ -3,4 +3,5 @@ pub mod BitLaws
 pub mod Joining
 pub mod Sets
 pub mod Reading
+pub mod Below
 pub mod Covering

@@ -1,5 +1,5 @@
 use Rattle.std.proofs.Common.{not, ◌||◌, rules}
-use Rattle.member_sets.proofs.Below.{all_joins, by_words}
+use Rattle.member_sets.proofs.ByWords.{all_joins, by_words}
 use Rattle.member_sets.proofs.members.Members.contains.Goals as goal
 
 pub returns-then-bits_in-3 : goal.returns-then-bits_in-3

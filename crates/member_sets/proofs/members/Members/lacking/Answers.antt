@@ -1,5 +1,5 @@
 use Rattle.std.proofs.Common.{not, ◌&&◌, arith}
-use Rattle.member_sets.proofs.Below.{count_le, count_joins, by_words}
+use Rattle.member_sets.proofs.ByWords.{count_le, count_joins, by_words}
 use Rattle.member_sets.proofs.members.Members.lacking.Goals as goal
 
 pub overflow_add-result : goal.overflow_add-result

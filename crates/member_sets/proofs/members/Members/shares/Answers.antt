@@ -1,5 +1,5 @@
 use Rattle.std.proofs.Common.{◌&&◌, rules}
-use Rattle.member_sets.proofs.Below.{some_joins, by_words}
+use Rattle.member_sets.proofs.ByWords.{some_joins, by_words}
 use Rattle.member_sets.proofs.members.Members.shares.Goals as goal
 
 pub returns-then-bits_meet-3 : goal.returns-then-bits_meet-3

@@ -10,4 +10,4 @@ pub overflow_sub-result : goal.overflow_sub-result
 overflow_sub-result c = let g = grown c in let e = c.area-2.ensures in let h = area_le c.args.self.now c.args.other.now in omega arith
 
 pub returns : goal.returns
-returns c = let g = grown c in let e = c.area-2.ensures in cc
+returns c = let g = grown c in let e = c.area-2.ensures in omega arith

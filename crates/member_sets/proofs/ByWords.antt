@@ -1,4 +1,4 @@
--- Tests of the numbers below n: 128 numbers as four words.
+-- Tests of 128 numbers as tests of four words.
 use Rattle.std.specs.Prelude.{◌≡◌, ℕ, zero, suc, ◌+◌, ◌*◌, ◌/◌, ◌%◌, ◌<◌, ◌≤◌, Bool, true, false, cond, ◌&&◌, ◌||◌, refl}
 use Rattle.std.proofs.Common.{sym, ap, ap₂, ◌∙◌, add-zero, add-suc, arith}
 use Rattle.std.proofs.Math.Nat.{add_left_comm}
