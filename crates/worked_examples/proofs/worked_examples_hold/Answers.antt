@@ -3,7 +3,8 @@ use native.Mathlib.Nat.{zero-div}
 use Rattle.std.proofs.lemmas.Bool.{both_ways, cases_Bool}
 use Rattle.member_sets.specs.Members.{bit, word, member, all_below, some_below, count_below, contains}
 use Rattle.member_sets.specs.declared.key.SetKey.{SetKey}
-use Rattle.member_sets.specs.Covering.{some_tells, contains_tells}
+use Rattle.member_sets.specs.Below.{some_tells}
+use Rattle.member_sets.specs.Covering.{contains_tells}
 use Rattle.node.specs.Nodes.{node_words}
 use Rattle.worked_examples.specs.Examples.{no_members}
 use Rattle.worked_examples.proofs.worked_examples_hold.Goals as goal
