@@ -5,4 +5,7 @@
 
 mod theorems;
 
-pub use theorems::{insert_adds, least_pages_hold, remove_takes, search_finds, words_fix_the_tree};
+pub use theorems::{
+    insert_adds, insert_lists_writes, least_pages_hold, remove_lists_edits, remove_takes,
+    search_finds, words_fix_the_tree,
+};

@@ -1,4 +1,5 @@
 ghost use Rattle.gist.specs.Theorems.{InsertAdds, RemoveTakes, SearchFinds, WordsFix, LeastPages, LeastTable};
+ghost use Rattle.gist.specs.Writes.{InsertWrites, RemoveEdits};
 
 use key_class::KeyClass;
 
@@ -12,6 +13,16 @@ pub fn insert_adds<K: KeyClass>()
 /// pages, gives back pages of the tree, and leaves all but two pages a level as they are.
 pub fn remove_takes<K: KeyClass>()
     ensures { RemoveTakes K.class }
+{}
+
+/// What an insert writes, page by page and in order, is what `insert_writes` lists; all else is as `insert_adds` tells.
+pub fn insert_lists_writes<K: KeyClass>()
+    ensures { InsertWrites K.class }
+{}
+
+/// What a removal writes and gives back is what `remove_edits` lists; all else is as `remove_takes` tells.
+pub fn remove_lists_edits<K: KeyClass>()
+    ensures { RemoveEdits K.class }
 {}
 
 /// A search finds the records that match, each once, in their order, and nothing else.

@@ -79,7 +79,7 @@ impl Node {
 
     /// Puts the entries of another node behind the others; false where they would be more than 12, and nothing changes.
     pub fn append<K: Key>(&mut self, other: &Node) -> bool
-        ensures { (level other-level : ℕ) (es fs : List (Entry K ℕ)) → Stands K.growing self.old level es → Stands K.growing other.now other-level fs
+        ensures { (level other_level : ℕ) (es fs : List (Entry K ℕ)) → Stands K.growing self.old level es → Stands K.growing other.now other_level fs
             → (result ≡ nat_le (length es + length fs) 12) × Stands K.growing self.new level (if result then es ++ fs else es) }
     {
         let count = other.words[1] as usize;
