@@ -13,13 +13,13 @@ abbrev pub Unlisted : List ℕ → ℕ → ℕ → ℕ → Type 0
 Unlisted ws head listed p = (i : ℕ) → i < listed → listed_page ws head i ≡ p → ⊥
 
 -- An edit of a page that is not listed.
-pub listing_kept : {us vs : List ℕ} {p : ℕ} {x : Option Words} → Edits us vs p x → (fresh more head listed : ℕ) → fresh ≤ more
+pub listing_kept : {us vs : List ℕ} {p : ℕ} {x : Option Words} {fresh more head listed : ℕ} → Edits us vs p x → fresh ≤ more
     → Listing us fresh head listed → Unlisted us head listed p → Listing vs more head listed
-listing_kept {us} {vs} e fresh more head listed le l ne =
+listing_kept {us} {vs} {p} {x} {fresh} {more} {head} {listed} e le l ne =
     let same : (i : ℕ) → i < listed → listed_page vs head i ≡ listed_page us head i = λ i h. same_listed e i head (λ j g. ne j (omega arith)) in
     record {
       spare = λ i h. subst (λ (q : ℕ). Spare vs more q) (sym (same i h)) (
-        (let b = (l.spare i h).0 in omega arith),
+        omega (arith, (l.spare i h).0),
         ap is_some (other_page e (listed_page us head i) (ne i h)) ∙ (l.spare i h).1,
       );
       apart = λ i j h g f. l.apart i j h g (sym (same i (omega arith)) ∙ f ∙ same j g);
@@ -30,37 +30,34 @@ pub unlisted_kept : {us vs : List ℕ} {p : ℕ} {x : Option Words} → Edits us
 unlisted_kept e head listed ne = λ i h f. ne i h (sym (same_listed e i head (λ j g. ne j (omega arith))) ∙ f)
 
 -- The list without its first page.
-pub listing_rest : (ws : List ℕ) (fresh head listed : ℕ) → Listing ws fresh head listed → Listing ws fresh (get_or ws (65 * head + 1) 0) (listed - 1)
+pub listing_rest : {ws : List ℕ} {fresh head listed : ℕ} → Listing ws fresh head listed → Listing ws fresh (get_or ws (65 * head + 1) 0) (listed - 1)
 unfolding listed_page
-listing_rest ws fresh head listed l = record {
+listing_rest l = record {
   spare = λ i h. l.spare (suc i) (omega arith);
   apart = λ i j h g. l.apart (suc i) (suc j) (omega arith) (omega arith);
 }
 
-pub unlisted_first : (ws : List ℕ) (fresh head listed : ℕ) → Listing ws fresh head listed → Unlisted ws (get_or ws (65 * head + 1) 0) (listed - 1) head
+pub unlisted_first : {ws : List ℕ} {fresh head listed : ℕ} → Listing ws fresh head listed → Unlisted ws (get_or ws (65 * head + 1) 0) (listed - 1) head
 unfolding listed_page
-unlisted_first ws fresh head listed l = λ i h f. l.apart 0 (suc i) (omega arith) (omega arith) (sym f)
+unlisted_first l = λ i h f. l.apart 0 (suc i) (omega arith) (omega arith) (sym f)
 
-pub spare_first : (ws : List ℕ) (fresh head listed : ℕ) → 0 < listed → Listing ws fresh head listed → Spare ws fresh head
+pub spare_first : {ws : List ℕ} {fresh head listed : ℕ} → Listing ws fresh head listed → 0 < listed → Spare ws fresh head
 unfolding listed_page
-spare_first ws fresh head listed h l = l.spare 0 h
+spare_first l h = l.spare 0 h
 
 -- The list with one more page, before the others.
-module _ (ws : List ℕ) (fresh head listed p : ℕ) (link : get_or ws (65 * p + 1) 0 ≡ head) (l : Listing ws fresh head listed) (ne : Unlisted ws head listed p) where
+pub listing_more : {ws : List ℕ} {fresh head listed : ℕ} (p : ℕ) → get_or ws (65 * p + 1) 0 ≡ head → Listing ws fresh head listed
+    → Unlisted ws head listed p → Spare ws fresh p → Listing ws fresh p (listed + 1)
+unfolding listed_page
+listing_more {ws} {fresh} {head} {listed} p link l ne s = record { spare = spare; apart = apart } where
   next : (i : ℕ) → listed_page ws p (suc i) ≡ listed_page ws head i
-  unfolding listed_page
   next i = ap (λ (h : ℕ). listed_page ws h i) link
 
-  more_spare : Spare ws fresh p → (i : ℕ) → i < listed + 1 → Spare ws fresh (listed_page ws p i)
-  unfolding listed_page
-  more_spare s zero h = s
-  more_spare s (suc i) h = subst (λ (q : ℕ). Spare ws fresh q) (sym (next i)) (l.spare i (omega arith))
+  spare : (i : ℕ) → i < listed + 1 → Spare ws fresh (listed_page ws p i)
+  spare zero h = s
+  spare (suc i) h = subst (λ (q : ℕ). Spare ws fresh q) (sym (next i)) (l.spare i (omega arith))
 
-  more_apart : (i j : ℕ) → i < j → j < listed + 1 → listed_page ws p i ≡ listed_page ws p j → ⊥
-  unfolding listed_page
-  more_apart i zero h g f = omega arith
-  more_apart zero (suc j) h g f = ne j (omega arith) (sym (f ∙ next j))
-  more_apart (suc i) (suc j) h g f = l.apart i j (omega arith) (omega arith) (sym (next i) ∙ f ∙ next j)
-
-  pub listing_more : Spare ws fresh p → Listing ws fresh p (listed + 1)
-  listing_more s = record { spare = more_spare s; apart = more_apart }
+  apart : (i j : ℕ) → i < j → j < listed + 1 → listed_page ws p i ≡ listed_page ws p j → ⊥
+  apart i zero h g f = omega arith
+  apart zero (suc j) h g f = ne j (omega arith) (sym (f ∙ next j))
+  apart (suc i) (suc j) h g f = l.apart i j (omega arith) (omega arith) (sym (next i) ∙ f ∙ next j)

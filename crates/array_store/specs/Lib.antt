@@ -1,3 +1,4 @@
 pub mod Layout
+pub mod Groups
 pub mod Array
 pub mod Laws

@@ -1,3 +1,5 @@
+#![tactic(auto, using(crate::proofs::Answered::calls))]
+
 ghost use Rattle.std.specs.Prelude.{◌≡◌, ◌/◌, ◌<◌, min, length, replicate, None, vec_len};
 ghost use Rattle.page_store.specs.Pages.{zeros};
 ghost use Rattle.page_store.specs.Refusals.{answer};
@@ -6,24 +8,19 @@ ghost use Rattle.array_store.specs.Layout.{cleared};
 ghost use Rattle.array_store.specs.Array.{words_in, pages_in, words_past};
 ghost use Rattle.array_store.specs.Laws.{few_pages, whole_pages};
 
-use crate::layout::{GROUP, clear_marks, fetch, fill, hold, is_held, next_listed, release};
+use crate::groups::Groups;
 use crate::store::ArrayStore;
 use page_store::{PageStore, StoreRefusal};
 
-const MOST_PAGES: usize = 4096;
-
 impl ArrayStore {
     /// As many free pages as there are whole groups of 65 words, at most 4096.
-    pub fn new(mut words: Vec<u32>) -> ArrayStore
+    pub fn new(words: Vec<u32>) -> ArrayStore
         ensures size { length (pages_in result) ≡ min (vec_len words / 65) 4096 }
         ensures pages { pages_in result ≡ replicate (length (pages_in result)) None }
         ensures words { words_in result ≡ cleared words.items (length (pages_in result)) }
     {
-        let size = (words.len() / GROUP).min(MOST_PAGES);
-        clear_marks(&mut words, size);
         ArrayStore {
-            words,
-            size: size as u32,
+            groups: Groups::new(words),
             fresh: 0,
             head: 0,
             listed: 0,
@@ -34,30 +31,24 @@ impl ArrayStore {
     pub fn words(&self) -> &[u32]
         ensures { result.now ≡ words_in self.now }
     {
-        self.words.as_slice()
+        self.groups.words()
     }
 
     /// Hands the words back as they lie.
     pub fn into_words(self) -> Vec<u32>
         ensures { result.items ≡ words_in self }
     {
-        let ArrayStore {
-            words,
-            size: _,
-            fresh: _,
-            head: _,
-            listed: _,
-        } = self;
-        words
+        self.groups.into_words()
     }
 
     // Whether a call may name `page`.
+    #[tactic(auto, using(crate::proofs::Answered::calls), unfolding(page_store::specs::Refusals::answer))]
     fn check(&self, page: u32) -> Result<(), StoreRefusal>
         ensures { result ≡ answer (pages_in self.now) page }
     {
-        if page >= self.size {
+        if page >= self.groups.size() {
             Err(StoreRefusal::OutOfRange)
-        } else if !is_held(&self.words, page as usize) {
+        } else if !self.groups.is_held(page) {
             Err(StoreRefusal::NotHeld)
         } else {
             Ok(())
@@ -71,21 +62,21 @@ impl ArrayStore {
         ensures past { words_past self.new ≡ words_past self.old }
     {
         let page = self.head;
-        self.head = next_listed(&self.words, page as usize);
+        self.head = self.groups.next_listed(page);
         self.listed -= 1;
-        hold(&mut self.words, page as usize);
+        self.groups.hold(page);
         page
     }
 
     // Takes the first page that has not been taken yet.
     fn take_fresh(&mut self) -> u32
-        requires { self.old.fresh < self.old.size }
+        requires { self.old.fresh < self.old.groups.size }
         ensures took { Took (pages_in self.old) (pages_in self.new) zeros result }
         ensures past { words_past self.new ≡ words_past self.old }
     {
         let page = self.fresh;
         self.fresh += 1;
-        hold(&mut self.words, page as usize);
+        self.groups.hold(page);
         page
     }
 }
@@ -94,18 +85,16 @@ impl ArrayStore {
 impl PageStore for ArrayStore {
     ghost meaning = { pages_in };
 
-    ghost rule = { λ _. Unit {0} };
+    ghost few = { λ s. few_pages (words_in s) s.groups.size s.few };
 
-    ghost few = { λ s _. few_pages (words_in s) s.size s.few };
-
-    ghost whole = { λ s p w _ e. whole_pages s.words s.size p w s.room e };
+    ghost whole = { λ s p w e. whole_pages s.groups.words s.groups.size p w s.groups.room e };
 
     fn size(&self) -> u32 {
-        self.size
+        self.groups.size()
     }
 
     fn free_count(&self) -> u32 {
-        self.listed + (self.size - self.fresh)
+        self.listed + (self.groups.size() - self.fresh)
     }
 
     fn take(&mut self) -> Result<u32, StoreRefusal>
@@ -114,7 +103,7 @@ impl PageStore for ArrayStore {
     {
         if self.listed > 0 {
             Ok(self.take_listed())
-        } else if self.fresh < self.size {
+        } else if self.fresh < self.groups.size() {
             Ok(self.take_fresh())
         } else {
             Err(StoreRefusal::NoFreePage)
@@ -126,7 +115,7 @@ impl PageStore for ArrayStore {
         ensures words { words_in self.new ≡ words_in self.old }
     {
         self.check(page)?;
-        fetch(&self.words, page as usize, words);
+        self.groups.fetch(page, words);
         Ok(())
     }
 
@@ -135,7 +124,7 @@ impl PageStore for ArrayStore {
         ensures past { words_past self.new ≡ words_past self.old }
     {
         self.check(page)?;
-        fill(&mut self.words, page as usize, words);
+        self.groups.fill(page, words);
         Ok(())
     }
 
@@ -144,7 +133,7 @@ impl PageStore for ArrayStore {
         ensures past { words_past self.new ≡ words_past self.old }
     {
         self.check(page)?;
-        release(&mut self.words, page as usize, self.head);
+        self.groups.release(page, self.head);
         self.head = page;
         self.listed += 1;
         Ok(())

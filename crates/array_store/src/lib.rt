@@ -2,7 +2,7 @@
 #![tactic(auto)]
 
 mod calls;
-mod layout;
+mod groups;
 mod store;
 
 pub use store::ArrayStore;

@@ -1,6 +1,8 @@
-ghost use Rattle.std.specs.Prelude.{◌≡◌, ℕ, ◌+◌, ◌-◌, ◌*◌, ◌<◌, ◌≤◌, false, is_some, vec_len, ◌≢◌, slice_index};
+ghost use Rattle.std.specs.Prelude.{◌≡◌, ℕ, ◌+◌, ◌-◌, ◌*◌, ◌<◌, ◌≤◌, false, is_some, ◌≢◌, slice_index};
 ghost use Rattle.page_store.specs.Pages.{free_pages};
 ghost use Rattle.array_store.specs.Layout.{page_at, pages_of, listed_page, Spare};
+
+use crate::groups::Groups;
 
 /// Pages in a vector of words, 65 words a page.
 ///
@@ -9,17 +11,15 @@ ghost use Rattle.array_store.specs.Layout.{page_at, pages_of, listed_page, Spare
 /// word of each names the next.
 #[derive(Drop)]
 pub struct ArrayStore {
-    pub(crate) words: Vec<u32>,
-    pub(crate) size: u32,
+    pub(crate) groups: Groups,
     pub(crate) fresh: u32,
     pub(crate) head: u32,
     pub(crate) listed: u32,
-    ghost room: { 65 * size ≤ vec_len words },
-    ghost few: { size ≤ 4096 },
-    ghost within: { fresh ≤ size },
-    ghost counted: { listed + (size - fresh) ≡ free_pages (pages_of words.items size) },
-    ghost unused: { (p : ℕ) → fresh ≤ p → p < size → is_some (page_at words.items p) ≡ false },
-    ghost spare: { (i : ℕ) → i < listed → Spare words.items fresh (listed_page words.items head i) },
-    ghost marks: { (p : ℕ) → p < size → slice_index words.items (65 * p) ≤ 1 },
-    ghost apart: { (i j : ℕ) → i < j → j < listed → listed_page words.items head i ≢ listed_page words.items head j },
+    ghost few: { groups.size ≤ 4096 },
+    ghost within: { fresh ≤ groups.size },
+    ghost counted: { listed + (groups.size - fresh) ≡ free_pages (pages_of groups.words.items groups.size) },
+    ghost unused: { (p : ℕ) → fresh ≤ p → p < groups.size → is_some (page_at groups.words.items p) ≡ false },
+    ghost spare: { (i : ℕ) → i < listed → Spare groups.words.items fresh (listed_page groups.words.items head i) },
+    ghost marks: { (p : ℕ) → p < groups.size → slice_index groups.words.items (65 * p) ≤ 1 },
+    ghost apart: { (i j : ℕ) → i < j → j < listed → listed_page groups.words.items head i ≢ listed_page groups.words.items head j },
 }

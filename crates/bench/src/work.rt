@@ -14,7 +14,8 @@ pub struct Sums {
 pub fn insert_all<S: PageStore>(index: &mut Index<Rectangle, S>, boards: &[[u32; 4]]) -> usize {
     let mut done: usize = 0;
     for words in boards {
-        if let Ok(key) = Rectangle::from_words(words) {
+        // Words that are no rectangle are passed over.
+        if let Ok(key) = Rectangle::try_from(*words) {
             if index.insert(&key).is_ok() {
                 done = done.saturating_add(1);
             }
@@ -43,8 +44,9 @@ pub fn search_all<S: PageStore>(
         weighed: 0,
         numbers: 0,
     };
-    let mut weight: u64 = 1;
-    for words in asked {
+    // Each search is weighed by its place, from 1 to 97 and again from 1.
+    for (words, weight) in asked.iter().zip((1..=97u64).cycle()) {
+        // As above; the weight goes on all the same.
         if let Ok(query) = RectangleQuery::meets(words) {
             let mut search = index.begin(query);
             let hits = list(&mut search, &mut sums.numbers);
@@ -52,11 +54,6 @@ pub fn search_all<S: PageStore>(
             sums.hits = sums.hits.saturating_add(hits);
             sums.weighed = sums.weighed.saturating_add(hits.saturating_mul(weight));
         }
-        weight = if weight == 97 {
-            1
-        } else {
-            weight.saturating_add(1)
-        };
     }
     (index, sums)
 }

@@ -6,12 +6,13 @@ use Rattle.key_class.specs.Class.{Class}
 use Rattle.node.specs.Nodes.{Entry}
 use Rattle.node.specs.InMemory.{words_in}
 use Rattle.node.specs.declared.memory.Node.{Node}
-use Rattle.gist.specs.Tree.{Tree, Gist, levels, written}
+use Rattle.gist.specs.Tree.{Tree, Gist, written}
 use Rattle.gist.specs.Search.{found_at, found}
 use Rattle.gist.specs.Rules.{PageRules}
 use Rattle.gist.specs.Theorems.{StandsOn}
 use Rattle.tree_pages.specs.OneNode.{loaded}
-use Rattle.tree_pages.specs.Laid.{root_page, Lies}
+use Rattle.tree_pages.specs.Laid.{start_of, Lies}
+use Rattle.tree_pages.specs.declared.root.Root.{Root}
 use Rattle.cursor.specs.Ways.{ahead, steps_ahead}
 use Rattle.cursor.specs.declared.place.Place.{Place}
 use Rattle.cursor.specs.declared.found.Found.{Found}
@@ -41,10 +42,10 @@ pub record Awaits {K Q : Type 0} (C : Class K Q) (s : Pages) (q : Q) (x : Cursor
   pub pending : Pending C s q x.way.height (ahead x.way) todo
   pub holds : Holds s (ahead x.way) x.node
 
--- Over any tree that keeps the rules of pages, with its root on this page and n levels, x has all to give that a search finds.
-pub record Starts {K Q : Type 0} (C : Class K Q) (page n : ℕ) (x : Cursor) : Type 0 where
+-- Over any tree that keeps the rules of pages and starts at r, x has all to give that a search finds.
+pub record Starts {K Q : Type 0} (C : Class K Q) (r : Option Root) (x : Cursor) : Type 0 where
   pub says : (s : Pages) (q : Q) (w : Gist K) → PageRules C.growing w → StandsOn s (written C.growing w)
-      → root_page w ≡ page → levels w ≡ n → Awaits C s q x (found C q w)
+      → start_of w ≡ r → Awaits C s q x (found C q w)
 
 abbrev pub entry : {K : Type 0} → Found K → Entry K ℕ
 entry f = record { key = f.key; link = f.number }

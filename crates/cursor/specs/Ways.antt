@@ -1,15 +1,12 @@
 -- The way of a cursor through a tree: the places that it has still to work off, and its steps.
-use Rattle.std.specs.Prelude.{◌≡◌, ℕ, zero, suc, ◌+◌, ◌-◌, ◌*◌, ◌<◌, ◌≤◌, List, [], ◌∷◌, drop, Some, None, Option}
+use Rattle.std.specs.Prelude.{◌≡◌, ℕ, zero, suc, ◌+◌, ◌-◌, ◌*◌, ◌<◌, ◌≤◌, ◌⊎◌, List, [], ◌∷◌, reverse, Some, None, Option}
+use Rattle.tree_pages.specs.declared.root.Root.{Root}
 use Rattle.cursor.specs.declared.place.Place.{Place}
 use Rattle.cursor.specs.declared.way.Way.{Way}
 
--- Which of the seven places is in hand; none at 7 and above.
-abbrev pub in_hand : Way → ℕ
-in_hand w = w.bottom + w.height
-
 -- The place in hand and those above it, up to the root's.
 abbrev pub ahead : Way → List Place
-ahead w = drop (in_hand w) w.places
+ahead w = reverse w.places.items
 
 -- The first entry of a page, and the entry after a place.
 abbrev pub first_of : ℕ → Place
@@ -32,21 +29,21 @@ steps_left h (p ∷ ps) = (1 + (12 - p.next) * entry_steps h) + steps_left (suc 
 abbrev pub steps_ahead : Way → ℕ
 steps_ahead w = steps_left w.height (ahead w)
 
--- The way to the root of a tree.
-pub record Started (page levels : ℕ) (w : Way) : Type 0 where
-  pub none : levels ≡ 0 → ahead w ≡ []
-  pub some : 1 ≤ levels → levels ≤ 7 → ahead w ≡ first_of page ∷ []
-  pub height : 1 ≤ levels → levels ≤ 7 → w.height + 1 ≡ levels
+-- The way to the root of a tree; to its end where there is none, and where it has not 1 to 7 levels.
+abbrev pub Started : Option Root → Way → Type 0
+Started None w = ahead w ≡ []
+Started (Some r) w =
+    (1 ≤ r.levels → r.levels ≤ 7 → (ahead w ≡ first_of r.page ∷ []) × (w.height + 1 ≡ r.levels))
+    × ((r.levels < 1) ⊎ (7 < r.levels) → ahead w ≡ [])
 
 -- What is in hand.
 abbrev pub Here : Way → Option Place → Type 0
 Here w None = ahead w ≡ []
-Here w (Some p) = (in_hand w < 7) × ((ps : List Place) × (ahead w ≡ p ∷ ps))
+Here w (Some p) = (ps : List Place) × (ahead w ≡ p ∷ ps)
 
 -- What a step makes of a way w: the place in hand is replaced by p, a page is gone down to, the page in hand is left.
 pub record Put (w v : Way) (p : Place) : Type 0 where
   pub height : v.height ≡ w.height
-  pub within : in_hand v ≡ in_hand w
   pub places : (x : Place) (ps : List Place) → ahead w ≡ x ∷ ps → ahead v ≡ p ∷ ps
 
 pub record Pushed (w v : Way) (page : ℕ) : Type 0 where
@@ -54,5 +51,4 @@ pub record Pushed (w v : Way) (page : ℕ) : Type 0 where
   pub places : ahead v ≡ first_of page ∷ ahead w
 
 pub record Popped (w v : Way) : Type 0 where
-  pub height : v.height ≡ w.height + 1
-  pub places : (x : Place) (ps : List Place) → ahead w ≡ x ∷ ps → ahead v ≡ ps
+  pub above : (x : Place) (ps : List Place) → ahead w ≡ x ∷ ps → (v.height ≡ w.height + 1) × (ahead v ≡ ps)

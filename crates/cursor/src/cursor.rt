@@ -8,7 +8,7 @@ use crate::way::Way;
 use key_class::KeyClass;
 use node::Node;
 use page_store::PageStore;
-use tree_pages::load;
+use tree_pages::{Root, load};
 
 /// A search under way: its way through the tree, and the node of the page in hand once it is loaded.
 ///
@@ -20,12 +20,12 @@ pub struct Cursor {
 }
 
 impl Cursor {
-    /// Before the first match in the tree with its root on this page and so many levels.
-    pub fn start<K: KeyClass>(root: u32, levels: u32) -> Cursor
-        ensures { Starts K.class root levels result }
+    /// Before the first match in the tree with this root; at the end where there is none.
+    pub fn start<K: KeyClass>(root: Option<Root>) -> Cursor
+        ensures { Starts K.class root result }
     {
         Cursor {
-            way: Way::start(root, levels),
+            way: Way::start(root),
             node: None,
         }
     }
@@ -33,7 +33,8 @@ impl Cursor {
     // Loads the node of the page in hand, unless it is held already.
     fn hold<S: PageStore>(&mut self, store: &mut S, page: u32)
         ensures way { self.new.way ≡ self.old.way }
-        ensures node { S.rule store.old → S.rule store.new × (S.meaning store.new ≡ S.meaning store.old) × Loads (S.meaning store.old) page self.old.node self.new.node }
+        ensures kept { S.meaning store.new ≡ S.meaning store.old }
+        ensures node { Loads (S.meaning store.old) page self.old.node self.new.node }
     {
         if self.node.is_none() {
             self.node = load(store, page);
@@ -46,9 +47,9 @@ impl Cursor {
         store: &mut S,
         query: &K::Query,
     ) -> Option<Found<K>>
-        ensures kept { S.rule store.old → S.rule store.new × (S.meaning store.new ≡ S.meaning store.old) }
+        ensures kept { S.meaning store.new ≡ S.meaning store.old }
         ensures falls { Falls self.old self.new result }
-        ensures nexts { S.rule store.old → Nexts K.class (S.meaning store.old) query.now self.old self.new result }
+        ensures nexts { Nexts K.class (S.meaning store.old) query.now self.old self.new result }
     {
         while let Some(place) = self.way.here() {
             self.hold(store, place.page);

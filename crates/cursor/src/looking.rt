@@ -6,7 +6,7 @@ use crate::found::Found;
 use crate::place::Place;
 use crate::way::Way;
 use key_class::KeyClass;
-use node::Node;
+use node::{Entry, Node};
 
 /// What a look at one entry led to.
 #[derive(Clone, Copy)]
@@ -35,13 +35,10 @@ pub(crate) fn look<K: KeyClass>(
         return Outcome::OtherPage;
     }
     way.put(Place {
-        page: place.page,
         next: place.next + 1,
+        ..place
     });
-    let Some(key) = node.key::<K>(i) else {
-        return Outcome::SamePage;
-    };
-    let Some(link) = node.link::<K>(i) else {
+    let Some(Entry { key, link }) = node.entry::<K>(i) else {
         return Outcome::SamePage;
     };
     if way.on_leaf() {

@@ -1,15 +1,16 @@
-ghost use Rattle.std.specs.Prelude.{◌≡◌, length};
+ghost use Rattle.std.specs.Prelude.{◌+◌, ◌≤◌};
+ghost use Rattle.arrayvec.specs.ArrayVec.{array_vec_len};
 
 use crate::place::Place;
+use arrayvec::ArrayVec;
 use tree_pages::MOST_LEVELS;
 
-/// The way from the root to the page in hand, whose height above the leaves is `height`.
+/// The way from the root to the page in hand: a place for each page, the root's first, that in hand last.
 ///
-/// The root's place is the last of the seven, that of each page below it lies one before, and a leaf's at `bottom`.
-#[derive(Clone, Copy)]
+/// `height` is that of the page in hand above the leaves.
+#[derive(Drop)]
 pub(crate) struct Way {
-    pub(crate) places: [Place; MOST_LEVELS],
-    pub(crate) bottom: u32,
+    pub(crate) places: ArrayVec<Place, MOST_LEVELS>,
     pub(crate) height: u32,
-    ghost seven: { length places ≡ 7 },
+    ghost seven: { array_vec_len places + height ≤ 7 },
 }

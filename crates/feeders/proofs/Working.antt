@@ -2,6 +2,9 @@
 use Rattle.std.proofs.Common.{◌≡◌, ℕ, true, List, [], ◌∷◌, ◌++◌, Some, None, vec_items, sym, refl, ap, ◌∙◌, subst}
 use Rattle.std.proofs.lemmas.List.{append_assoc, append-nil}
 use Rattle.page_store.specs.Pages.{Pages}
+use Rattle.page_store.specs.declared.store.PageStore.{Ghosts as StoreGhosts}
+use Rattle.key_class.specs.declared.class.Key.{Ghosts as KeyGhosts}
+use Rattle.key_class.specs.declared.class.KeyClass.{Ghosts as ClassGhosts}
 use Rattle.node.specs.Nodes.{Entry}
 use Rattle.intervals.specs.Intervals.{interval_class}
 use Rattle.intervals.specs.declared.interval.Interval.{Interval}
@@ -15,21 +18,21 @@ use Rattle.feeders.specs.declared.log.Log.{Log}
 use Rattle.feeders.specs.Listing.{found_answers, Lists}
 
 -- Of all that was to come from x, what is noted and what y has still to give are the whole.
-pub record Left {S : Type 0} (s : Pages) (y : Search Interval S IntervalQuery) (all : List (Entry Interval ℕ)) (before log : Log) : Type 0 where
+pub record Left {S : Type 0} {CG : ClassGhosts Interval IntervalQuery} {KG : KeyGhosts Interval} {SG : StoreGhosts S} (s : Pages) (y : Search Interval S IntervalQuery CG KG SG) (all : List (Entry Interval ℕ)) (before log : Log) : Type 0 where
   pub rest : List (Entry Interval ℕ)
   pub come : ToCome interval_class s y rest
   pub noted : log.whole ≡ true → vec_items log.answers ++ found_answers rest ≡ vec_items before.answers ++ found_answers all
 
-pub record Worked {S : Type 0} (s t : Pages) (x y : Search Interval S IntervalQuery) (before log : Log) : Type 0 where
+pub record Worked {S : Type 0} {CG : ClassGhosts Interval IntervalQuery} {KG : KeyGhosts Interval} {SG : StoreGhosts S} (s t : Pages) (x y : Search Interval S IntervalQuery CG KG SG) (before log : Log) : Type 0 where
   pub pages : t ≡ s
   pub says : (all : List (Entry Interval ℕ)) → ToCome interval_class s x all → Left s y all before log
 
-module _ {S : Type 0} where
-  pub none_yet : (s : Pages) (x : Search Interval S IntervalQuery) (log : Log) → Worked s s x x log log
+module _ {S : Type 0} {CG : ClassGhosts Interval IntervalQuery} {KG : KeyGhosts Interval} {SG : StoreGhosts S} where
+  pub none_yet : (s : Pages) (x : Search Interval S IntervalQuery CG KG SG) (log : Log) → Worked s s x x log log
   none_yet s x log = record { pages = refl; says = λ all c. record { rest = all; come = c; noted = λ w. refl } }
 
   -- One record more.
-  pub one_more : (s t u : Pages) (x y z : Search Interval S IntervalQuery) (before log log' : Log) (f : FoundRecord Interval) → Worked s t x y before log → u ≡ t → Nexts interval_class t y z (Some f)
+  pub one_more : (s t u : Pages) (x y z : Search Interval S IntervalQuery CG KG SG) (before log log' : Log) (f : FoundRecord Interval) → Worked s t x y before log → u ≡ t → Nexts interval_class t y z (Some f)
       → (log'.whole ≡ true → log.whole ≡ true) → (log'.whole ≡ true → vec_items log'.answers ≡ vec_items log.answers ++ Found f.number ∷ []) → Worked s u x z before log'
   one_more s t u x y z before log log' f w same n was noted = record {
     pages = same ∙ w.pages;
@@ -45,7 +48,7 @@ module _ {S : Type 0} where
         };
   }
 
-  pub no_more : (s t : Pages) (x y z : Search Interval S IntervalQuery) (before log : Log) → Worked s t x y before log → Nexts interval_class t y z None → Lists s x before log
+  pub no_more : (s t : Pages) (x y z : Search Interval S IntervalQuery CG KG SG) (before log : Log) → Worked s t x y before log → Nexts interval_class t y z None → Lists s x before log
   no_more s t x y z before log w n = record {
     says = λ all c whole.
         let l = w.says all c in

@@ -16,6 +16,7 @@ pub enum Answer {
     Found(u32),
 }
 
+// By hand: no derive prints what is no error.
 impl fmt::Display for Answer {
     fn fmt<W: fmt::Write>(&self, f: &mut fmt::Formatter<W>) -> fmt::Result {
         match self {

@@ -5,16 +5,16 @@ ghost use Rattle.index.specs.Searching.{index_in};
 ghost use Rattle.feeders.specs.Listing.{Lists};
 
 use crate::answer::Answer;
-use crate::feeder::Feeder;
 use crate::log::Log;
 use index::{Index, Search};
 use intervals::{Interval, IntervalQuery};
 use page_store::PageStore;
+use reels::Reel;
 
 type Bank<S> = Index<Interval, S>;
 
-fn plug_in<S: PageStore>(bank: &mut Bank<S>, feeder: &Feeder) -> Answer {
-    match feeder.range() {
+fn plug_in<S: PageStore>(bank: &mut Bank<S>, reel: &Reel) -> Answer {
+    match reel.range() {
         Ok(range) => match bank.insert(&range) {
             Ok(number) => Answer::PluggedIn(number),
             Err(refusal) => Answer::NotPluggedIn(refusal),
@@ -25,7 +25,7 @@ fn plug_in<S: PageStore>(bank: &mut Bank<S>, feeder: &Feeder) -> Answer {
 
 // Works a search off: notes all that was still to come, in its order.
 fn list<S: PageStore>(search: &mut Search<Interval, S>, log: &mut Log)
-    ensures { S.rule (store_in (index_in search.old)) → Lists (S.meaning (store_in (index_in search.old))) search.old log.old log.new }
+    ensures { Lists (S.meaning (store_in (index_in search.old))) search.old log.old log.new }
 {
     while let Some(found) = search.next() {
         log.note(Answer::Found(found.number));
@@ -48,14 +48,14 @@ fn find<S: PageStore>(bank: Bank<S>, low: u32, high: u32, log: &mut Log) -> Bank
     }
 }
 
-/// Plugs the feeders in, asks for each range of values, and hands the store back.
-pub fn serve<S: PageStore>(store: S, feeders: &[Feeder], asked: &[(u32, u32)], log: &mut Log) -> S {
+/// Plugs the reels in, asks for each range of values, and hands the store back.
+pub fn serve<S: PageStore>(store: S, reels: &[Reel], asked: &[(u32, u32)], log: &mut Log) -> S {
     let mut bank = Index::new(store);
-    for feeder in feeders {
-        log.note(plug_in(&mut bank, feeder));
+    for reel in reels {
+        log.note(plug_in(&mut bank, reel));
     }
-    for range in asked {
-        bank = find(bank, range.0, range.1, log);
+    for (low, high) in asked {
+        bank = find(bank, *low, *high, log);
     }
     bank.dismantle()
 }

@@ -7,7 +7,7 @@ use std::alloc::Global;
 #[derive(Drop)]
 pub struct Log {
     pub answers: Vec<Answer>,
-    /// Whether there was memory for all of them.
+    /// Whether there was memory for all of them. A flag and no Result, so that what was noted before is still told.
     pub whole: bool,
 }
 

@@ -3,170 +3,172 @@
 
 mod answer;
 mod bank;
-mod feeder;
 mod log;
 
 use answer::Answer;
 use array_store::ArrayStore;
 use bank::serve;
-use feeder::Feeder;
 use log::Log;
 use page_cache::Cache;
+use page_store::PageStore;
+use reels::Reel;
+use std::alloc::Global;
 use std::io;
 
-// Values in ohms: reels of one value, reels of a mixed range, and one that is labelled the wrong way round.
-const FEEDERS: [Feeder; 31] = [
-    Feeder {
+// Values in ohms: reels of one value, reels of a mixed range, and one that is labelled the wrong way round. They are written
+// out, since a call in a constant's value is not supported.
+const REELS: [Reel; 31] = [
+    Reel {
         slot: 1,
         low: 100,
         high: 100,
     },
-    Feeder {
+    Reel {
         slot: 2,
         low: 120,
         high: 120,
     },
-    Feeder {
+    Reel {
         slot: 3,
         low: 150,
         high: 180,
     },
-    Feeder {
+    Reel {
         slot: 4,
         low: 220,
         high: 270,
     },
-    Feeder {
+    Reel {
         slot: 5,
         low: 330,
         high: 330,
     },
-    Feeder {
+    Reel {
         slot: 6,
         low: 390,
         high: 470,
     },
-    Feeder {
+    Reel {
         slot: 7,
         low: 560,
         high: 560,
     },
-    Feeder {
+    Reel {
         slot: 8,
         low: 680,
         high: 820,
     },
-    Feeder {
+    Reel {
         slot: 9,
         low: 1000,
         high: 1000,
     },
-    Feeder {
+    Reel {
         slot: 10,
         low: 1200,
         high: 1500,
     },
-    Feeder {
+    Reel {
         slot: 11,
         low: 1800,
         high: 1800,
     },
-    Feeder {
+    Reel {
         slot: 12,
         low: 2200,
         high: 2200,
     },
-    Feeder {
+    Reel {
         slot: 13,
         low: 2700,
         high: 3300,
     },
-    Feeder {
+    Reel {
         slot: 14,
         low: 3900,
         high: 3900,
     },
-    Feeder {
+    Reel {
         slot: 15,
         low: 5100,
         high: 4700,
     },
-    Feeder {
+    Reel {
         slot: 16,
         low: 4700,
         high: 5100,
     },
-    Feeder {
+    Reel {
         slot: 17,
         low: 5600,
         high: 5600,
     },
-    Feeder {
+    Reel {
         slot: 18,
         low: 6800,
         high: 8200,
     },
-    Feeder {
+    Reel {
         slot: 19,
         low: 10000,
         high: 10000,
     },
-    Feeder {
+    Reel {
         slot: 20,
         low: 10000,
         high: 12000,
     },
-    Feeder {
+    Reel {
         slot: 21,
         low: 15000,
         high: 15000,
     },
-    Feeder {
+    Reel {
         slot: 22,
         low: 18000,
         high: 22000,
     },
-    Feeder {
+    Reel {
         slot: 23,
         low: 27000,
         high: 27000,
     },
-    Feeder {
+    Reel {
         slot: 24,
         low: 33000,
         high: 39000,
     },
-    Feeder {
+    Reel {
         slot: 25,
         low: 47000,
         high: 47000,
     },
-    Feeder {
+    Reel {
         slot: 26,
         low: 56000,
         high: 68000,
     },
-    Feeder {
+    Reel {
         slot: 27,
         low: 82000,
         high: 82000,
     },
-    Feeder {
+    Reel {
         slot: 28,
         low: 100000,
         high: 100000,
     },
-    Feeder {
+    Reel {
         slot: 29,
         low: 100,
         high: 270,
     },
-    Feeder {
+    Reel {
         slot: 30,
         low: 1000,
         high: 10000,
     },
-    Feeder {
+    Reel {
         slot: 31,
         low: 470,
         high: 470,
@@ -181,56 +183,33 @@ const ASKED: [(u32, u32); 5] = [
     (0, 4294967295),
 ];
 
-// What the index answers on an array store, behind a cache, and behind two.
-fn on_array(rt: &HostRuntime, memory: Vec<u32>) -> Log {
-    let mut log = Log::new(rt.alloc());
-    let _store = serve(ArrayStore::new(memory), &FEEDERS, &ASKED, &mut log);
+// What the index answers on this store, which `end` takes back.
+fn answers<S: PageStore, F: FnOnce(S)>(heap: Global, store: S, end: F) -> Log
+    requires { F.IsAlwaysCallable end }
+{
+    let mut log = Log::new(heap);
+    end(serve(store, &REELS, &ASKED, &mut log));
     log
 }
 
-fn on_cache(rt: &HostRuntime, memory: Vec<u32>) -> Log {
-    let mut log = Log::new(rt.alloc());
-    let cache = serve(
-        Cache::new(ArrayStore::new(memory)),
-        &FEEDERS,
-        &ASKED,
-        &mut log,
-    );
-    let _store = cache.end();
-    log
-}
-
-fn on_pile(rt: &HostRuntime, memory: Vec<u32>) -> Log {
-    let mut log = Log::new(rt.alloc());
-    let upper = serve(
-        Cache::new(Cache::new(ArrayStore::new(memory))),
-        &FEEDERS,
-        &ASKED,
-        &mut log,
-    );
-    let lower = upper.end();
-    let _store = lower.end();
-    log
-}
-
-// The feeders that were plugged in; the place is the record number less one.
-fn plugged_in(rt: &HostRuntime, log: &Log) -> io::Result<Vec<Feeder>> {
-    let mut plugged = Vec::new(rt.alloc());
-    for (feeder, answer) in FEEDERS.iter().zip(log.answers.iter()) {
-        println!(rt; "{feeder}: {answer}")?;
+// The reels that were plugged in; the place is the record number less one.
+fn plugged_in(rt: &impl Print, heap: Global, log: &Log) -> io::Result<Vec<Reel>> {
+    let mut plugged = Vec::new(heap);
+    for (reel, answer) in REELS.iter().zip(log.answers.iter()) {
+        println!(rt; "{reel}: {answer}")?;
         if let Answer::PluggedIn(_) = answer {
-            plugged.push(*feeder)?;
+            plugged.push(*reel)?;
         }
     }
     Ok(plugged)
 }
 
-fn report(rt: &HostRuntime, log: &Log) -> io::Result<()> {
-    let plugged = plugged_in(rt, log)?;
-    for answer in log.answers.iter().skip(FEEDERS.len()) {
+fn report(rt: &impl Print, heap: Global, log: &Log) -> io::Result<()> {
+    let plugged = plugged_in(rt, heap, log)?;
+    for answer in log.answers.iter().skip(REELS.len()) {
         match answer {
             Answer::Found(number) => match plugged.get((*number as usize).saturating_sub(1)) {
-                Some(feeder) => println!(rt; "  {feeder}")?,
+                Some(reel) => println!(rt; "  {reel}")?,
                 None => println!(rt; "{answer}, which nobody plugged in")?,
             },
             _ => println!(rt; "{answer}")?,
@@ -240,13 +219,20 @@ fn report(rt: &HostRuntime, log: &Log) -> io::Result<()> {
 }
 
 // The same on all three kinds of store, in memory for `pages` pages.
-fn run(rt: &HostRuntime, pages: usize) -> io::Result<()> {
+fn run(rt: &impl Print, heap: Global, pages: usize) -> io::Result<()> {
     println!(rt; "{pages} pages in memory")?;
     let words = pages.saturating_mul(65);
-    let log = on_array(rt, vec![in rt.alloc(); 7u32; words]?);
-    report(rt, &log)?;
-    let cached = on_cache(rt, vec![in rt.alloc(); 7u32; words]?);
-    let piled = on_pile(rt, vec![in rt.alloc(); 7u32; words]?);
+    let store = ArrayStore::new(vec![in heap; 7u32; words]?);
+    let log = answers(heap, store, |_| {});
+    report(rt, heap, &log)?;
+    let cache = Cache::new(ArrayStore::new(vec![in heap; 7u32; words]?));
+    let cached = answers(heap, cache, |cache| {
+        let _ = cache.end();
+    });
+    let pile = Cache::new(Cache::new(ArrayStore::new(vec![in heap; 7u32; words]?)));
+    let piled = answers(heap, pile, |upper| {
+        let _ = upper.end().end();
+    });
     if cached.answers == log.answers && piled.answers == log.answers {
         println!(rt; "behind a cache and behind two: the same answers")?;
     }
@@ -257,6 +243,6 @@ fn run(rt: &HostRuntime, pages: usize) -> io::Result<()> {
 }
 
 fn main(rt: HostRuntime) -> io::Result<()> {
-    run(&rt, 6)?;
-    run(&rt, 2)
+    run(&rt, rt.alloc(), 6)?;
+    run(&rt, rt.alloc(), 2)
 }

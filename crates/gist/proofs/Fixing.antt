@@ -1,6 +1,7 @@
 -- The words on pages fix the tree.
 use Rattle.std.proofs.Common.{◌≡◌, ℕ, zero, suc, List, [], ◌∷◌, map, length, sym, refl, ap, ◌∙◌, arith}
 use Rattle.std.specs.List.{flat_map}
+use Rattle.std.proofs.lemmas.Option.{same_Some}
 use Rattle.page_store.specs.Pages.{Pages, at}
 use Rattle.key_class.specs.Class.{Growing, Coded}
 use Rattle.node.specs.Nodes.{Entry, node_words}
@@ -10,7 +11,6 @@ use Rattle.node.proofs.Questions.{entries_back}
 use Rattle.gist.specs.Tree.{Link, Tree, link_number, words_of, written_at, written_of}
 use Rattle.gist.specs.Theorems.{StandsOn, WordsFix}
 use Rattle.gist.proofs.Lists.{all_left, all_right}
-use Rattle.gist.proofs.Perms.{some_same}
 
 module _ {K : Type 0} {G : Growing K} (C : Coded G) (s : Pages) where
   -- An entry as it lies on a page.
@@ -41,7 +41,7 @@ module _ {K : Type 0} {G : Growing K} (C : Coded G) (s : Pages) where
 
   same_node : (h : ℕ) → Alike h → (t u : Tree K h) → StandsOn s (written_of G h t) → StandsOn s (written_of G h u) → t.page ≡ u.page → t ≡ u
   same_node h one t u a b p =
-      let w : words_of G h t ≡ words_of G h u = some_same (sym a.0 ∙ ap (at s) p ∙ b.0) in
+      let w : words_of G h t ≡ words_of G h u = same_Some _ _ (sym a.0 ∙ ap (at s) p ∙ b.0) in
       let es : t.entries ≡ u.entries = same_entries h one t.entries u.entries (words_same (suc h) _ _ w) a.1 b.1 in
       λ i. record { page = p i; entries = es i }
 

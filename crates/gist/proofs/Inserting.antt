@@ -6,6 +6,7 @@ use lib.ListN.{length-map}
 use Rattle.std.specs.List.{flat_map, remove as without, AllByRecursion, slice_get}
 use Rattle.std.proofs.lemmas.List.{append-nil}
 use Rattle.std.proofs.lemmas.Bool.{leb-true, leb-false, eqb-true, eqb-false, lt-leb, eq-eqb, ne_eqb}
+use Rattle.std.proofs.lemmas.Grind.{flat_map-append}
 use Rattle.key_class.specs.Class.{Growing, Class, Lawful}
 use Rattle.node.specs.Nodes.{Entry, keys, stay, go}
 use Rattle.gist.specs.Tree.{Link, Tree, Gist, empty, root, Written, levels, records_at, records_of, records, pages, words_of, written_at, written_of, written, entry_for}
@@ -13,7 +14,7 @@ use Rattle.gist.specs.Insert.{least_growth, Grown, split, fill, regrown, insert_
 use Rattle.gist.specs.Rules.{Between, Ruled, PageRules, root_least}
 use Rattle.gist.specs.Theorems.{numbers, Differ, InsertAdds}
 use Rattle.gist.specs.Writes.{own_pages, writes_under, root_writes, AddsWriting, InsertWrites}
-use Rattle.gist.proofs.Lists.{joined-++, joined_map, all_map, all-++, all_stay, all_go, all_set, all_nth, all_map_to, nth_there}
+use Rattle.gist.proofs.Lists.{joined_map, all_map, all-++, all_stay, all_go, all_set, all_nth, all_map_to, nth_there}
 use Rattle.gist.proofs.Perms.{perm_eq, nth_first, set_first, joined_perm, joined_stay_go}
 use Rattle.gist.proofs.Bags.{v, ∅, ◌⊕◌, bag}
 use Rattle.gist.proofs.Differing.{differ_not, differ_as, differ_beside, differ_more}
@@ -103,7 +104,7 @@ module _ {K : Type 0} (G : Growing K) where
   -- What the entries of a node come to, once the child at place i has grown.
   regrown_joined : {B : Type 0} (k : K) (h i : ℕ) (f : Entry K (Tree K h) → List B) (r : Grown K h) (es : List (Entry K (Tree K h))) (e : Entry K (Tree K h)) → slice_get es i ≡ Some e →
       Perm (flat_map f (regrown G h k i r es)) ((f (entry_for G h k r.node) ++ flat_map (λ u. f (entry_for G h k u)) r.split_off) ++ flat_map f (without es i))
-  regrown_joined {B} k h i f r es e at = rw (joined-++ f (set es i (entry_for G h k r.node)), joined_map)
+  regrown_joined {B} k h i f r es e at = rw (flat_map-append f (set es i (entry_for G h k r.node)), joined_map)
       (Perm.trans (Perm.append_right off (joined_perm f (set_first es i e (entry_for G h k r.node) at)))
       (bag (f (entry_for G h k r.node) ∷ off ∷ flat_map f (without es i) ∷ []) ((v 0 ⊕ v 2) ⊕ v 1) ((v 0 ⊕ v 1) ⊕ v 2) refl))
     where

@@ -1,7 +1,7 @@
 -- Lists: All, joined, kept-by, stay and go.
-use Rattle.std.proofs.Common.{◌≡◌, ℕ, zero, suc, ◌+◌, ◌<◌, ◌≤◌, Bool, true, false, cond, ltb, List, [], ◌∷◌, ◌++◌, map, length, set, Some, filter, sym, refl, ap, ◌∙◌, arith}
+use Rattle.std.proofs.Common.{◌≡◌, ℕ, zero, suc, ◌+◌, ◌<◌, ◌≤◌, Bool, true, false, cond, ltb, List, [], ◌∷◌, ◌++◌, map, length, set, Some, filter, refl, ap, ◌∙◌, arith}
 use Rattle.std.specs.List.{flat_map, AllByRecursion, slice_get}
-use Rattle.std.proofs.lemmas.List.{append_assoc}
+use Rattle.std.proofs.lemmas.List.Elements.{filter-append}
 use Rattle.node.specs.Nodes.{stay, go}
 use Rattle.gist.specs.Insert.{least, least_from}
 
@@ -26,14 +26,6 @@ module _ {A : Type 0} where
   all_right P [] ys h = h
   all_right P (x ∷ xs) ys h = all_right P xs ys h.1
 
-  pub kept-++ : (p : A → Bool) (xs ys : List A) → filter p (xs ++ ys) ≡ filter p xs ++ filter p ys
-  kept-++ p [] ys = refl
-  kept-++ p (x ∷ xs) ys = step (p x) (kept-++ p xs ys)
-    where
-      step : (b : Bool) → filter p (xs ++ ys) ≡ filter p xs ++ filter p ys → cond b (x ∷ filter p (xs ++ ys)) (filter p (xs ++ ys)) ≡ cond b (x ∷ filter p xs) (filter p xs) ++ filter p ys
-      step true e = ap {B = List A} (λ r. x ∷ r) e
-      step false e = e
-
   pub kept_none : (p : A → Bool) (xs : List A) → AllByRecursion (λ x. p x ≡ false) xs → filter p xs ≡ []
   kept_none p [] h = refl
   kept_none p (x ∷ xs) h = rw h.0 (kept_none p xs h.1)
@@ -47,14 +39,10 @@ module _ {A B : Type 0} where
   joined_all P f [] h = tt
   joined_all P f (x ∷ xs) h = (all_left P (f x) (flat_map f xs) h, joined_all P f xs (all_right P (f x) (flat_map f xs) h))
 
-  pub joined-++ : (f : A → List B) (xs ys : List A) → flat_map f (xs ++ ys) ≡ flat_map f xs ++ flat_map f ys
-  joined-++ f [] ys = refl
-  joined-++ f (x ∷ xs) ys = ap (λ (r : List B). f x ++ r) (joined-++ f xs ys) ∙ sym (append_assoc (f x) (flat_map f xs) (flat_map f ys))
-
   -- joined and kept-by change places
   pub kept_joined : (m : B → Bool) (f : A → List B) (xs : List A) → filter m (flat_map f xs) ≡ flat_map (λ x. filter m (f x)) xs
   kept_joined m f [] = refl
-  kept_joined m f (x ∷ xs) = kept-++ m (f x) (flat_map f xs) ∙ ap (λ (r : List B). filter m (f x) ++ r) (kept_joined m f xs)
+  kept_joined m f (x ∷ xs) = filter-append m (f x) (flat_map f xs) ∙ ap (λ (r : List B). filter m (f x) ++ r) (kept_joined m f xs)
 
   pub joined_same : (f g : A → List B) (xs : List A) → AllByRecursion (λ x. f x ≡ g x) xs → flat_map f xs ≡ flat_map g xs
   joined_same f g [] h = refl

@@ -1,5 +1,6 @@
 -- Permutations: what joined, and the places of a list, do with them.
-use Rattle.std.proofs.Common.{◌≡◌, ℕ, zero, suc, Bool, true, false, List, [], ◌∷◌, ◌++◌, map, length, set, Some, None, refl, ap, ◌∙◌, arith}
+use Rattle.std.proofs.Common.{◌≡◌, ℕ, zero, suc, Bool, true, false, List, [], ◌∷◌, ◌++◌, map, length, set, Some, refl, ap, ◌∙◌}
+use Rattle.std.proofs.lemmas.Option.{none-some}
 use mathlib.Core.Logic.{∥∥₁_elim}
 use mathlib.Core.List.{Perm, Permᴰ}
 use mathlib.Core.List.Perm
@@ -7,8 +8,10 @@ use mathlib.Core.List.{Perm-prop, perm_middle, perm_append_comm}
 use native.Mathlib.Nat.{ℕ_set}
 use Rattle.std.specs.List.{flat_map, remove as without, slice_get}
 use Rattle.std.proofs.lemmas.List.{append_assoc, append-nil}
+use Rattle.std.proofs.lemmas.Option.{same_Some}
+use Rattle.std.proofs.lemmas.Grind.{flat_map-append}
+use Rattle.std.proofs.lemmas.List.Concat.{flat_map_single}
 use Rattle.node.specs.Nodes.{stay, go}
-use Rattle.gist.proofs.Lists.{joined-++}
 
 module _ {A : Type 0} where
   pub perm_eq : {xs ys : List A} → xs ≡ ys → Perm xs ys
@@ -24,20 +27,14 @@ module _ {A : Type 0} where
   stay_go (true ∷ bs) (x ∷ xs) = Perm.trans (perm_middle (stay bs xs) (go bs xs)) (Perm.cons x (stay_go bs xs))
   stay_go (false ∷ bs) (x ∷ xs) = Perm.cons x (stay_go bs xs)
 
-  pub none_some : {x : A} → None ≡ Some x → ⊥
-  none_some e = let z : ◌≡◌ {A = ℕ} 0 1 = cc in omega arith
-
-  pub some_same : {x y : A} → Some x ≡ Some y → x ≡ y
-  some_same e = cc
-
   -- the entry at a place, and the others
   pub nth_first : (xs : List A) (i : ℕ) (x : A) → slice_get xs i ≡ Some x → Perm xs (x ∷ without xs i)
-  nth_first [] i x e = absurd (none_some e)
-  nth_first (y ∷ xs) zero x e = rw (some_same e) (Perm.refl (x ∷ xs))
+  nth_first [] i x e = absurd (none-some _ e)
+  nth_first (y ∷ xs) zero x e = rw (same_Some _ _ e) (Perm.refl (x ∷ xs))
   nth_first (y ∷ xs) (suc i) x e = Perm.trans (Perm.cons y (nth_first xs i x e)) (Perm.swap x y (without xs i))
 
   pub set_first : (xs : List A) (i : ℕ) (x y : A) → slice_get xs i ≡ Some x → Perm (set xs i y) (y ∷ without xs i)
-  set_first [] i x y e = absurd (none_some e)
+  set_first [] i x y e = absurd (none-some _ e)
   set_first (z ∷ xs) zero x y e = Perm.refl (y ∷ xs)
   set_first (z ∷ xs) (suc i) x y e = Perm.trans (Perm.cons z (set_first xs i x y e)) (Perm.swap y z (without xs i))
 
@@ -52,15 +49,11 @@ module _ {A B : Type 0} (f : A → List B) where
   joined_perm {xs} {ys} p = ∥∥₁_elim p Perm-prop flatᴰ
 
   pub joined_stay_go : (bs : List Bool) (xs : List A) → Perm (flat_map f (stay bs xs) ++ flat_map f (go bs xs)) (flat_map f xs)
-  joined_stay_go bs xs = rw (← joined-++ f (stay bs xs) (go bs xs)) (joined_perm (stay_go bs xs))
+  joined_stay_go bs xs = rw (← flat_map-append f (stay bs xs) (go bs xs)) (joined_perm (stay_go bs xs))
 
 -- Mapping keeps a permutation.
 pub map_perm : {A B : Type 0} (f : A → B) {xs ys : List A} → Perm xs ys → Perm (map f xs) (map f ys)
-map_perm f {xs} {ys} p = rw (map_joined f xs, map_joined f ys) (joined_perm (λ x. f x ∷ []) p)
-  where
-    map_joined : {A B : Type 0} (f : A → B) (xs : List A) → map f xs ≡ flat_map (λ x. f x ∷ []) xs
-    map_joined f [] = refl
-    map_joined {B = B} f (x ∷ xs) = ap {B = List B} (λ r. f x ∷ r) (map_joined f xs)
+map_perm f {xs} {ys} p = rw (← flat_map_single f xs, ← flat_map_single f ys) (joined_perm (λ x. f x ∷ []) p)
 
 -- There are as many.
 module _ {A : Type 0} where

@@ -2,7 +2,7 @@
 use Rattle.std.proofs.Common.{◌≡◌, ℕ, zero, suc, ◌+◌, ◌*◌, ◌<◌, ◌≤◌, Bool, true, false, cond, eqb, leb, List, [], ◌∷◌, ◌++◌, length, set, Some, None, Option, sym, refl, ap, ◌∙◌, subst, arith, length-append, length-set}
 use mathlib.Core.List.Perm
 use mathlib.Core.List.{Perm, perm_middle, perm_append_comm}
-use Rattle.std.specs.Option.{option_map}
+use Rattle.std.specs.Option.{option_map, option_or}
 use Rattle.std.specs.List.{flat_map, insert as with_at, remove as without, AllByRecursion, slice_get}
 use Rattle.std.proofs.lemmas.List.{append-nil}
 use Rattle.std.proofs.lemmas.Bool.{leb-true, leb-false, eqb-true, eq-eqb, and_parts, and_from, both_ways}
@@ -10,12 +10,15 @@ use Rattle.key_class.specs.Class.{Growing, Coded, Class, Lawful}
 use Rattle.node.specs.Nodes.{Entry, keys, stay, go}
 use Rattle.gist.specs.Tree.{Link, Tree, Gist, empty, root, Written, records_at, records_of, records, pages, words_of, written_at, written, union_of, entry_for}
 use Rattle.gist.specs.Insert.{least_growth}
-use Rattle.gist.specs.Remove.{same_words, is_record, without_first, joined_to, mended, or_else, first_removed, remove_under, lowered, removed}
+use Rattle.gist.specs.Remove.{same_words, is_record, without_first, joined_to, mended, first_removed, remove_under, lowered, removed}
 use Rattle.gist.specs.Rules.{Between, Ruled, root_least, PageRules}
 use Rattle.gist.specs.Theorems.{Differ, Taken, RemoveTakes}
 use Rattle.gist.specs.Writes.{below_by, Edits, page_edit, join_edits, mend_edits, edits_by, edits_under, root_edits, edits_of, remove_edits, holding, freed, TakesEditing, Edited, RemoveEdits}
-use Rattle.gist.proofs.Lists.{all_map, all_map₂, all-++, all_joined, all_stay, all_go, all_set, all_nth, nth_there, joined-++}
-use Rattle.gist.proofs.Perms.{perm_eq, perm_swap, none_some, some_same, nth_first, set_first, joined_perm, joined_stay_go}
+use Rattle.gist.proofs.Lists.{all_map, all_map₂, all-++, all_joined, all_stay, all_go, all_set, all_nth, nth_there}
+use Rattle.std.proofs.lemmas.Option.{none-some}
+use Rattle.std.proofs.lemmas.Option.{same_Some}
+use Rattle.std.proofs.lemmas.Grind.{flat_map-append}
+use Rattle.gist.proofs.Perms.{perm_eq, perm_swap, nth_first, set_first, joined_perm, joined_stay_go}
 use Rattle.gist.proofs.Bags.{v, ◌⊕◌, bag, bag_by}
 use Rattle.gist.proofs.Differing.{differ_not, differ_as, differ_beside, differ_more}
 use Rattle.gist.proofs.Searching.{covers_below}
@@ -62,7 +65,7 @@ module _ {A : Type 0} where
   all_without P (y ∷ xs) (suc i) h = (h.0, all_without P xs i h.1)
 
   length_without : (xs : List A) (i : ℕ) (x : A) → slice_get xs i ≡ Some x → length xs ≡ suc (length (without xs i))
-  length_without [] i x e = absurd (none_some e)
+  length_without [] i x e = absurd (none-some _ e)
   length_without (y ∷ xs) zero x e = refl
   length_without (y ∷ xs) (suc i) x e = ap suc (length_without xs i x e)
 
@@ -114,7 +117,7 @@ module _ {K Q : Type 0} (C : Class K Q) (coded : Coded C.growing) (law : Lawful 
       let p : (eqb e.link n ≡ true) × (same_words (G.squeeze e.key) (G.squeeze k) ≡ true) = and_parts _ _ r in
       let a : e.link ≡ n = eqb-true e.link n p.0 in
       let b : G.squeeze e.key ≡ G.squeeze k = words_same _ _ p.1 in
-      let c : e.key ≡ k = some_same (sym (coded.round_trip e.key) ∙ ap G.unsqueeze b ∙ coded.round_trip k) in
+      let c : e.key ≡ k = same_Some _ _ (sym (coded.round_trip e.key) ∙ ap G.unsqueeze b ∙ coded.round_trip k) in
       λ i. record { key = c i; link = a i }
 
   this_is : is_record G k n this ≡ true
@@ -259,13 +262,13 @@ module _ {K Q : Type 0} (C : Class K Q) (coded : Coded C.growing) (law : Lawful 
 
       one_pages : Perm (flat_map (written_at G (suc h)) (set (without es i) j (entry_for G h k one))) (own h one ++ (below_of x ++ (below_of f.link ++ beside)))
       one_pages = Perm.trans (joined_perm (written_at G (suc h)) (set_first (without es i) j f (entry_for G h k one) by))
-          (Perm.trans (perm_eq (ap (λ (r : Written). own h one ++ (r ++ beside)) (joined-++ (written_at G h) f.link.entries x.entries)))
+          (Perm.trans (perm_eq (ap (λ (r : Written). own h one ++ (r ++ beside)) (flat_map-append (written_at G h) f.link.entries x.entries)))
           (bag (own h one ∷ below_of f.link ∷ below_of x ∷ beside ∷ []) (v 0 ⊕ (v 1 ⊕ v 2) ⊕ v 3) (v 0 ⊕ v 2 ⊕ v 1 ⊕ v 3) refl))
 
       into_one : length both ≤ 12 → Mends h es (set (without es i) j (entry_for G h k one)) ((x.page, None) ∷ page_edit G h one ∷ lost_edits)
       into_one l = record {
         records_less = Perm.trans records_pair
-            (Perm.cons this (rw (← joined-++ (records_at h) f.link.entries x.entries)
+            (Perm.cons this (rw (← flat_map-append (records_at h) f.link.entries x.entries)
             (Perm.symm (joined_perm (records_at (suc h)) (set_first (without es i) j f (entry_for G h k one) by)))));
         fewer = record {
           old = e.link.page ∷ f.link.page ∷ lost_old;
@@ -302,7 +305,7 @@ module _ {K Q : Type 0} (C : Class K Q) (coded : Coded C.growing) (law : Lawful 
           (Perm.append_left (F (entry_for G h k went)) (joined_perm F (set_first (without es i) j f (entry_for G h k stayed) by)))
 
       shared : {B : Type 0} (F : Entry K (Link K h) → List B) → Perm (flat_map F f.link.entries ++ flat_map F x.entries) (flat_map F (stay marks both) ++ flat_map F (go marks both))
-      shared F = rw (← joined-++ F f.link.entries x.entries) (Perm.symm (joined_stay_go F marks both))
+      shared F = rw (← flat_map-append F f.link.entries x.entries) (Perm.symm (joined_stay_go F marks both))
 
       two_pages : Perm (flat_map (written_at G (suc h)) us) ((own h went ++ own h stayed) ++ (below_of x ++ (below_of f.link ++ beside)))
       two_pages = Perm.trans (two (written_at G (suc h)))
@@ -376,7 +379,7 @@ module _ {K Q : Type 0} (C : Class K Q) (coded : Coded C.growing) (law : Lawful 
       later (Some c) d (j, e₁, p, q, s) = (suc j, e₁, omega arith, q, s)
 
       step : (b : Bool) → C.covers e.key k ≡ b → (s : Option (Tree K h)) → below e.link ≡ s → (r : Option (ℕ × Tree K h)) → First h below (i + 1) es r →
-          First h below i (e ∷ es) (or_else (cond b (option_map (λ t. (i, t)) s) None) r)
+          First h below i (e ∷ es) (option_or (cond b (option_map (λ t. (i, t)) s) None) r)
       step true p None q r f = later r (λ c. q) f
       step true p (Some u) q r f = (0, e, omega arith, refl, q)
       step false p s q r f = later r (λ c. absurd (both_ways (C.covers e.key k) p c)) f

@@ -1,6 +1,7 @@
 -- A search finds what matches.
 use Rattle.std.proofs.Common.{◌≡◌, ℕ, zero, suc, Bool, true, false, cond, List, [], ◌∷◌, Some, filter, sym, refl, ◌∙◌, subst}
 use Rattle.std.specs.List.{flat_map, AllByRecursion}
+use Rattle.std.proofs.lemmas.Option.{same_Some}
 use Rattle.key_class.specs.Class.{Class, Lawful}
 use Rattle.key_class.specs.Joined.{joined_onto, joined as union-all}
 use Rattle.node.specs.Nodes.{Entry, keys}
@@ -9,7 +10,6 @@ use Rattle.gist.specs.Search.{found_at}
 use Rattle.gist.specs.Rules.{Ruled}
 use Rattle.gist.specs.Theorems.{SearchFinds}
 use Rattle.gist.proofs.Lists.{all_map, all_map₂, all_joined, kept_none, kept_joined, joined_same}
-use Rattle.gist.proofs.Perms.{some_same}
 
 module _ {K Q : Type 0} (C : Class K Q) (law : Lawful C) where
   onto_covers_first : (k : K) (xs : List K) → C.covers (joined_onto C.growing k xs) k ≡ true
@@ -27,7 +27,7 @@ module _ {K Q : Type 0} (C : Class K Q) (law : Lawful C) where
   -- The union of some keys covers each.
   union_covers : {L : Type 0} (k : K) (es : List (Entry K L)) → union-all C.growing (keys es) ≡ Some k → AllByRecursion (λ e. C.covers k e.key ≡ true) es
   union_covers k [] u = tt
-  union_covers {L} k (e ∷ es) u = subst (λ j. AllByRecursion {X = Entry K L} (λ f. C.covers j f.key ≡ true) (e ∷ es)) (some_same u) (onto_covers_first e.key (keys es), onto_covers e.key es)
+  union_covers {L} k (e ∷ es) u = subst (λ j. AllByRecursion {X = Entry K L} (λ f. C.covers j f.key ≡ true) (e ∷ es)) (same_Some _ _ u) (onto_covers_first e.key (keys es), onto_covers e.key es)
 
   -- Whatever covers an entry's key covers the keys of all records that it leads to.
   pub covers_below : (h : ℕ) (k : K) (e : Entry K (Link K h)) → Ruled C.growing h e → C.covers k e.key ≡ true →

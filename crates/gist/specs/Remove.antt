@@ -1,6 +1,6 @@
 -- Remove: into every entry that covers the key, in order; thin nodes are joined to a partner.
 use Rattle.std.specs.Prelude.{ℕ, zero, suc, ◌+◌, Bool, true, false, cond, ◌&&◌, List, [], ◌∷◌, ◌++◌, length, Some, None, Option, ◌==◌, nat_le, slice_set}
-use Rattle.std.specs.Option.{option_map}
+use Rattle.std.specs.Option.{option_map, option_or}
 use Rattle.std.specs.List.{insert as with_at, remove as without, slice_get}
 use Rattle.key_class.specs.Class.{Growing, Class}
 use Rattle.node.specs.Nodes.{Entry, keys, stay, go}
@@ -43,14 +43,10 @@ mended {K} C h k es i x =
     cond (nat_le 4 (length x.entries)) (slice_set es i (entry_for C.growing h k x)) (joined_to C h k others i x j (slice_get others j))
 
 -- The first child, of those whose entry covers the key, that has the record: its place, and what comes of it.
-abbrev pub or_else : {A : Type 0} → Option A → Option A → Option A
-or_else (Some a) o = Some a
-or_else None o = o
-
 abbrev pub first_removed : {K Q : Type 0} → Class K Q → K → (h : ℕ) → (Tree K h → Option (Tree K h)) → ℕ → List (Entry K (Tree K h)) → Option (ℕ × Tree K h)
 first_removed C k h below i [] = None
 first_removed C k h below i (e ∷ es) =
-    or_else (cond (C.covers e.key k) (option_map (λ t. (i, t)) (below e.link)) None) (first_removed C k h below (i + 1) es)
+    option_or (cond (C.covers e.key k) (option_map (λ t. (i, t)) (below e.link)) None) (first_removed C k h below (i + 1) es)
 
 abbrev pub remove_under : {K Q : Type 0} → Class K Q → K → ℕ → (h : ℕ) → Tree K h → Option (Tree K h)
 remove_under C k n zero t = option_map (λ es. record { page = t.page; entries = es }) (without_first (is_record C.growing k n) t.entries)

@@ -7,32 +7,29 @@ use key_class::KeyClass;
 use page_store::{PageStore, take_with};
 use std::io;
 
-pub fn plug_in<S: PageStore>(rt: &HostRuntime, store: &mut S, feeder: &Feeder) -> io::Result<()>
-    ensures { S.rule store.old → S.rule store.new }
-{
-    match take_with(store, &feeder.to_page()) {
+pub fn plug_in<S: PageStore>(rt: &impl Print, store: &mut S, feeder: &Feeder) -> io::Result<()> {
+    match take_with(store, &<[u32; 64]>::from(*feeder)) {
         Ok(page) => println!(rt; "page {page} taken: {feeder}"),
         Err(refusal) => println!(rt; "no page for {feeder}: {refusal}"),
     }
 }
 
-pub fn unplug<S: PageStore>(rt: &HostRuntime, store: &mut S, page: u32) -> io::Result<()>
-    ensures { S.rule store.old → S.rule store.new }
-{
+pub fn unplug<S: PageStore>(rt: &impl Print, store: &mut S, page: u32) -> io::Result<()> {
     match store.give_back(page) {
         Ok(()) => println!(rt; "page {page} given back"),
         Err(refusal) => println!(rt; "page {page} not given back: {refusal}"),
     }
 }
 
-pub fn list<S: PageStore>(rt: &HostRuntime, store: &mut S) -> io::Result<()>
-    ensures { S.rule store.old → S.rule store.new × (S.meaning store.new ≡ S.meaning store.old) }
+pub fn list<S: PageStore>(rt: &impl Print, store: &mut S) -> io::Result<()>
+    ensures { S.meaning store.new ≡ S.meaning store.old }
 {
     let mut words = [0; 64];
+    // By page number: a store is asked for one page at a time, and no iterator may borrow it meanwhile.
     for page in 0..store.size() {
         match store.read(page, &mut words) {
             Ok(()) => {
-                let feeder = Feeder::from_page(&words);
+                let feeder = Feeder::from(&words);
                 println!(rt; "page {page}: {feeder}")?;
             }
             Err(refusal) => println!(rt; "page {page}: {refusal}")?,
@@ -42,8 +39,8 @@ pub fn list<S: PageStore>(rt: &HostRuntime, store: &mut S) -> io::Result<()>
 }
 
 // Prints the feeder if it has a value that the question asks for.
-fn show_match(rt: &HostRuntime, feeder: &Feeder, query: &IntervalQuery) -> io::Result<()> {
-    match feeder.range() {
+fn show_match(rt: &impl Print, feeder: &Feeder, query: &IntervalQuery) -> io::Result<()> {
+    match feeder.reel.range() {
         Ok(range) => {
             if range.matches(query) {
                 println!(rt; "  {feeder}")?;
@@ -55,8 +52,8 @@ fn show_match(rt: &HostRuntime, feeder: &Feeder, query: &IntervalQuery) -> io::R
 }
 
 /// Prints the feeders with a value from `low` to `high`.
-pub fn find<S: PageStore>(rt: &HostRuntime, store: &mut S, low: u32, high: u32) -> io::Result<()>
-    ensures { S.rule store.old → S.rule store.new × (S.meaning store.new ≡ S.meaning store.old) }
+pub fn find<S: PageStore>(rt: &impl Print, store: &mut S, low: u32, high: u32) -> io::Result<()>
+    ensures { S.meaning store.new ≡ S.meaning store.old }
 {
     println!(rt; "feeders with {low} to {high} ohm:")?;
     let query = match IntervalQuery::meets(&[low, high, 0, 0]) {
@@ -64,9 +61,10 @@ pub fn find<S: PageStore>(rt: &HostRuntime, store: &mut S, low: u32, high: u32) 
         Err(refusal) => return println!(rt; "  {refusal}"),
     };
     let mut words = [0; 64];
+    // By page number: a store is asked for one page at a time, and no iterator may borrow it meanwhile.
     for page in 0..store.size() {
-        if let Ok(()) = store.read(page, &mut words) {
-            show_match(rt, &Feeder::from_page(&words), &query)?;
+        if store.read(page, &mut words).is_ok() {
+            show_match(rt, &Feeder::from(&words), &query)?;
         }
     }
     Ok(())

@@ -7,8 +7,7 @@ use Rattle.gist.specs.Insert.{way, needed, inserted}
 use Rattle.tree_pages.specs.Laid.{Fresh}
 use Rattle.insertion.specs.Refusals.{insert_refusal}
 use Rattle.insertion.specs.declared.refusal.InsertRefusal.{InsertRefusal}
-use Rattle.index.specs.Parts.{last_number}
-use Rattle.index.specs.Standing.{StandsFor}
+use Rattle.index.specs.Standing.{last_number, StandsFor}
 use Rattle.index.specs.declared.shape.Shape.{Shape}
 
 -- The number is the next one, and the tree that which the definition gives on the pages taken. Which those are is open; they

@@ -1,14 +1,13 @@
 -- What an index is made of.
-use Rattle.std.specs.Prelude.{ℕ}
+use Rattle.page_store.specs.declared.store.PageStore.{Ghosts as StoreGhosts}
+use Rattle.key_class.specs.declared.class.Key.{Ghosts as KeyGhosts}
+use Rattle.key_class.specs.declared.class.KeyClass.{Ghosts as ClassGhosts}
 use Rattle.index.specs.declared.index.Index.{Index}
 use Rattle.index.specs.declared.shape.Shape.{Shape}
 
-abbrev pub store_in : {K S : Type 0} → Index K S → S
-store_in i = i.store
+module _ {K S Q : Type 0} {C : ClassGhosts K Q} {G : KeyGhosts K} {P : StoreGhosts S} where
+  abbrev pub store_in : Index K S Q C G P → S
+  store_in i = i.store
 
-abbrev pub shape_in : {K S : Type 0} → Index K S → Shape
-shape_in i = i.shape
-
--- The last number that an insert answered; 0 before the first.
-abbrev pub last_number : Shape → ℕ
-last_number f = f.last
+  abbrev pub shape_in : Index K S Q C G P → Shape
+  shape_in i = i.shape

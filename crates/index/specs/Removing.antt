@@ -6,8 +6,7 @@ use Rattle.gist.specs.Tree.{Gist}
 use Rattle.gist.specs.Remove.{removed}
 use Rattle.removal.specs.declared.refusal.RemoveRefusal.{RemoveRefusal}
 use Rattle.removal.specs.declared.refusal.RemoveRefusal.TheVariants.{NoSuchRecord}
-use Rattle.index.specs.Parts.{last_number}
-use Rattle.index.specs.Standing.{StandsFor}
+use Rattle.index.specs.Standing.{last_number, StandsFor}
 use Rattle.index.specs.declared.shape.Shape.{Shape}
 
 -- The tree is that which the definition gives, and the last number is the same.

@@ -16,8 +16,7 @@ impl<K: KeyClass, S: PageStore> Index<K, S> {
         ensures query { query_in result ≡ query }
         ensures begins { Begins K.class (S.meaning (store_in self)) (shape_in self) result }
     {
-        let root = self.shape.root;
-        let cursor = Cursor::start::<K>(root.page, root.levels);
+        let cursor = Cursor::start::<K>(self.shape.root);
         Search {
             index: self,
             query,
@@ -29,10 +28,10 @@ impl<K: KeyClass, S: PageStore> Index<K, S> {
 impl<K: KeyClass, S: PageStore> Search<K, S> {
     /// The next record that matches; none, for ever, when there is none left.
     pub fn next(&mut self) -> Option<Found<K>>
-        ensures kept { S.rule (store_in (index_in self.old)) → S.rule (store_in (index_in self.new)) × (S.meaning (store_in (index_in self.new)) ≡ S.meaning (store_in (index_in self.old))) }
+        ensures kept { S.meaning (store_in (index_in self.new)) ≡ S.meaning (store_in (index_in self.old)) }
         ensures same { (shape_in (index_in self.new) ≡ shape_in (index_in self.old)) × (query_in self.new ≡ query_in self.old) }
         ensures falls { Falls (cursor_in self.old) (cursor_in self.new) result }
-        ensures nexts { S.rule (store_in (index_in self.old)) → Nexts K.class (S.meaning (store_in (index_in self.old))) self.old self.new result }
+        ensures nexts { Nexts K.class (S.meaning (store_in (index_in self.old))) self.old self.new result }
     {
         self.cursor.next::<K, S>(&mut self.index.store, &self.query)
     }

@@ -3,8 +3,8 @@ use tree_pages::Root;
 /// What an index knows of its tree without a look at the pages.
 #[derive(Clone, Copy)]
 pub struct Shape {
-    /// Where the tree starts.
-    pub(crate) root: Root,
+    /// Where the tree starts; none where it is empty.
+    pub(crate) root: Option<Root>,
     /// The last record number given.
     pub(crate) last: u32,
     /// The number of records.

@@ -1,5 +1,5 @@
 -- Entries written to a page, or shared out between it and a new page.
-use Rattle.std.specs.Prelude.{◌≡◌, ℕ, ◌+◌, ◌<◌, ◌≤◌, true, List, [], ◌∷◌, ◌++◌, length, set, is_some, Some, None, Option}
+use Rattle.std.specs.Prelude.{◌≡◌, ℕ, ◌+◌, ◌<◌, ◌≤◌, true, List, [], ◌∷◌, ◌++◌, length, set, is_some, Some, None, Option, option_to_list}
 use Rattle.page_store.specs.Pages.{Pages, at, free_pages}
 use Rattle.key_class.specs.Class.{Growing, Class}
 use Rattle.key_class.specs.Joined.{joined}
@@ -7,13 +7,7 @@ use Rattle.node.specs.Nodes.{Entry, keys, node_words, stay, go}
 use Rattle.node.specs.InMemory.{Stands}
 use Rattle.node.specs.declared.memory.Node.{Node}
 use Rattle.tree_pages.specs.Laid.{Free}
-use Rattle.insertion.specs.declared.change.Child.{Child}
 use Rattle.insertion.specs.declared.change.Change.{Change}
-
--- The entry for a node split off.
-abbrev pub split_entry : {K : Type 0} → Option (Child K) → List (Entry K ℕ)
-split_entry None = []
-split_entry (Some c) = record { key = c.key; link = c.page } ∷ []
 
 -- The entries es fill page p; k is the union of their keys.
 pub record OnePage {K : Type 0} (G : Growing K) (s t : Pages) (p level : ℕ) (es : List (Entry K ℕ)) (k : K) : Type 0 where
@@ -21,21 +15,21 @@ pub record OnePage {K : Type 0} (G : Growing K) (s t : Pages) (p level : ℕ) (e
   pub pages : t ≡ set s p (Some (node_words G level es))
   pub key : joined G (keys es) ≡ Some k
 
--- The entries xs fill page p, and ys a page that was free.
-pub record TwoPages {K : Type 0} (G : Growing K) (s t : Pages) (p level : ℕ) (xs ys : List (Entry K ℕ)) (k : K) (c : Child K) : Type 0 where
-  pub free : Free s c.page
-  pub pages : t ≡ set (set s c.page (Some (node_words G level ys))) p (Some (node_words G level xs))
+-- The entries xs fill page p, and ys a page that was free; new is the entry for that page.
+pub record TwoPages {K : Type 0} (G : Growing K) (s t : Pages) (p level : ℕ) (xs ys : List (Entry K ℕ)) (k : K) (new : Entry K ℕ) : Type 0 where
+  pub free : Free s new.link
+  pub pages : t ≡ set (set s new.link (Some (node_words G level ys))) p (Some (node_words G level xs))
   pub key : joined G (keys xs) ≡ Some k
-  pub new_key : joined G (keys ys) ≡ Some c.key
+  pub new_key : joined G (keys ys) ≡ Some new.key
 
-pub record Split {K Q : Type 0} (G : Growing K) (C : Class K Q) (s t : Pages) (p level : ℕ) (es : List (Entry K ℕ)) (k : K) (c : Child K) : Type 0 where
+pub record Split {K Q : Type 0} (G : Growing K) (C : Class K Q) (s t : Pages) (p level : ℕ) (es : List (Entry K ℕ)) (k : K) (new : Entry K ℕ) : Type 0 where
   pub many : length es ≡ 13
-  pub two : TwoPages G s t p level (stay (C.split (keys es)) es) (go (C.split (keys es)) es) k c
+  pub two : TwoPages G s t p level (stay (C.split (keys es)) es) (go (C.split (keys es)) es) k new
 
 -- Up to 12 entries on one page; 13 are split.
-abbrev pub FilledBy : {K Q : Type 0} → Growing K → Class K Q → Pages → Pages → ℕ → ℕ → List (Entry K ℕ) → K → Option (Child K) → Type 0
+abbrev pub FilledBy : {K Q : Type 0} → Growing K → Class K Q → Pages → Pages → ℕ → ℕ → List (Entry K ℕ) → K → Option (Entry K ℕ) → Type 0
 FilledBy G C s t p level es k None = OnePage G s t p level es k
-FilledBy G C s t p level es k (Some c) = Split G C s t p level es k c
+FilledBy G C s t p level es k (Some new) = Split G C s t p level es k new
 
 abbrev pub Filled : {K Q : Type 0} → Growing K → Class K Q → Pages → Pages → ℕ → ℕ → List (Entry K ℕ) → Option (Change K) → Type 0
 Filled G C s t p level es None = ⊥
@@ -50,15 +44,15 @@ pub record Room (s : Pages) (p : ℕ) (n : ℕ) : Type 0 where
 
 abbrev pub SharedBy : {K : Type 0} → Growing K → Pages → Pages → ℕ → ℕ → List (Entry K ℕ) → List (Entry K ℕ) → Option (Change K) → Type 0
 SharedBy G s t p level xs ys None = ⊥
-SharedBy {K} G s t p level xs ys (Some c) = (new : Child K) × (c.split_off ≡ Some new) × TwoPages G s t p level xs ys c.key new
+SharedBy {K} G s t p level xs ys (Some c) = (new : Entry K ℕ) × (c.split_off ≡ Some new) × TwoPages G s t p level xs ys c.key new
 
 pub record Shares {K : Type 0} (G : Growing K) (s t : Pages) (p : ℕ) (stays goes : Node) (r : Option (Change K)) : Type 0 where
   pub says : (level : ℕ) (xs ys : List (Entry K ℕ)) → Stands G stays level xs → Stands G goes level ys → 1 ≤ length xs → 1 ≤ length ys
       → is_some (at s p) ≡ true → 1 ≤ free_pages s → SharedBy G s t p level xs ys r
 
-pub record Adds {K Q : Type 0} (G : Growing K) (C : Class K Q) (s t : Pages) (p : ℕ) (n : Node) (k : K) (link : ℕ) (r : Option (Change K)) : Type 0 where
-  pub says : (level : ℕ) (es : List (Entry K ℕ)) → Stands G n level es → Room s p (length es + 1) → Filled G C s t p level (es ++ record { key = k; link = link } ∷ []) r
+pub record Adds {K Q : Type 0} (G : Growing K) (C : Class K Q) (s t : Pages) (p : ℕ) (n : Node) (e : Entry K ℕ) (r : Option (Change K)) : Type 0 where
+  pub says : (level : ℕ) (es : List (Entry K ℕ)) → Stands G n level es → Room s p (length es + 1) → Filled G C s t p level (es ++ e ∷ []) r
 
 pub record Regrows {K Q : Type 0} (G : Growing K) (C : Class K Q) (s t : Pages) (p : ℕ) (n : Node) (i child : ℕ) (c : Change K) (r : Option (Change K)) : Type 0 where
-  pub says : (level : ℕ) (es : List (Entry K ℕ)) → Stands G n level es → i < length es → Room s p (length es + length (split_entry c.split_off))
-      → Filled G C s t p level (set es i (record { key = c.key; link = child }) ++ split_entry c.split_off) r
+  pub says : (level : ℕ) (es : List (Entry K ℕ)) → Stands G n level es → i < length es → Room s p (length es + length (option_to_list c.split_off))
+      → Filled G C s t p level (set es i (record { key = c.key; link = child }) ++ option_to_list c.split_off) r

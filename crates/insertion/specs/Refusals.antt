@@ -1,5 +1,5 @@
 -- The refusals of an insert, their numbers, and when each is due.
-use Rattle.std.specs.Prelude.{ℕ, cond, ◌&&◌, List, length, Some, None, Option, nat_le, nat_lt}
+use Rattle.std.specs.Prelude.{ℕ, ◌&&◌, List, length, Some, None, Option, if◌then◌else◌, nat_le, nat_lt}
 use Rattle.gist.specs.Insert.{Step, new_root, needed}
 use Rattle.insertion.specs.declared.refusal.InsertRefusal.{InsertRefusal}
 use Rattle.insertion.specs.declared.refusal.InsertRefusal.TheVariants.{NoNumberLeft, TooManyLevels, TooFewPages, NotATree}
@@ -15,9 +15,10 @@ number_of NotATree = None
 -- that is not full? Are as many pages free as are needed? The first no decides.
 abbrev pub asked : List Step → ℕ → Option InsertRefusal
 asked steps free =
-    cond (new_root steps && nat_le 7 (length steps)) (Some TooManyLevels)
-    (cond (nat_le (needed steps) free) None (Some (TooFewPages (needed steps) free)))
+    if new_root steps && nat_le 7 (length steps) then Some TooManyLevels
+    else if nat_le (needed steps) free then None
+    else Some (TooFewPages (needed steps) free)
 
 -- Before that: is a number left?
 abbrev pub insert_refusal : ℕ → List Step → ℕ → Option InsertRefusal
-insert_refusal last steps free = cond (nat_lt last 4294967295) (asked steps free) (Some NoNumberLeft)
+insert_refusal last steps free = if nat_lt last 4294967295 then asked steps free else Some NoNumberLeft

@@ -1,5 +1,5 @@
 -- What an insert under a node does to the pages.
-use Rattle.std.specs.Prelude.{◌≡◌, ℕ, suc, ◌+◌, true, List, ◌∷◌, ◌++◌, map, length, is_some, Some, None, Ok, Err, Result}
+use Rattle.std.specs.Prelude.{◌≡◌, ℕ, suc, ◌+◌, true, List, ◌∷◌, ◌++◌, map, length, is_some, Some, None, Ok, Err, Result, option_to_list}
 use Rattle.std.specs.List.{AllByRecursion}
 use Rattle.page_store.specs.Pages.{Pages, at, free_pages}
 use Rattle.key_class.specs.Class.{Class}
@@ -10,14 +10,13 @@ use Rattle.gist.specs.Writes.{writes_under}
 use Rattle.tree_pages.specs.Laid.{on_page, Lies, over, Fresh}
 use Rattle.insertion.specs.Refusals.{asked}
 use Rattle.insertion.specs.Way.{Knows}
-use Rattle.insertion.specs.Filling.{split_entry}
 use Rattle.insertion.specs.declared.above.Above.{Above}
 use Rattle.insertion.specs.declared.change.Change.{Change}
 use Rattle.insertion.specs.declared.refusal.InsertRefusal.{InsertRefusal}
 
 -- The entries that a node on page p and the node split off from it have in their parent.
 abbrev pub entries_told : {K : Type 0} → ℕ → Change K → List (Entry K ℕ)
-entries_told p c = record { key = c.key; link = p } ∷ split_entry c.split_off
+entries_told p c = record { key = c.key; link = p } ∷ option_to_list c.split_off
 
 -- The pages taken, in the order of the takes, and what came of the node: it is what the definition gives with these pages,
 -- and any more would be left over. t has just the pages that the definition writes, over s.

@@ -8,6 +8,14 @@ ghost use Rattle.insertion.specs.Way.{Knows, FullLeaf};
 use crate::refusal::InsertRefusal;
 use node::Node;
 use page_store::PageStore;
+use tree_pages::MOST_LEVELS;
+
+// Whether a node has all the entries that it can hold.
+pub(crate) fn is_full(node: &Node) -> bool
+    ensures { result ≡ nat_le 12 (count_in (words_in node.now)) }
+{
+    node.count() >= Node::CAPACITY
+}
 
 /// What is known of the nodes above a node on the way of a key.
 #[derive(Clone, Copy)]
@@ -23,10 +31,10 @@ impl Above {
     pub(crate) fn child_of(self, node: &Node) -> Above
         ensures { (n : ℕ) → self.run ≡ n → n + 1 < 2 ^ 32 → result ≡ record { run = (if nat_le 12 (count_in (words_in node.now)) then 1 + n else 0); levels = self.levels } }
     {
-        let run = if node.count() < 12 {
-            0
-        } else {
+        let run = if is_full(node) {
             self.run.saturating_add(1)
+        } else {
+            0
         };
         Above {
             run,
@@ -36,18 +44,14 @@ impl Above {
 
     // What is asked before a full leaf is split.
     pub(crate) fn ask<S: PageStore>(self, store: &S) -> Result<(), InsertRefusal>
-        ensures { S.rule store.now → FullLeaf self (S.meaning store.now) result }
+        ensures { FullLeaf self (S.meaning store.now) result }
     {
         let splits = self.run.saturating_add(1);
         let new_root = splits == self.levels;
-        if new_root && self.levels >= 7 {
+        if new_root && self.levels as usize >= MOST_LEVELS {
             return Err(InsertRefusal::TooManyLevels);
         }
-        let needed = if new_root {
-            splits.saturating_add(1)
-        } else {
-            splits
-        };
+        let needed = splits.saturating_add(u32::from(new_root));
         let free = store.free_count();
         if needed > free {
             return Err(InsertRefusal::TooFewPages { needed, free });

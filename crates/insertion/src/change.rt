@@ -1,17 +1,12 @@
 ghost use Rattle.std.specs.Prelude.{◌≡◌, None};
 
-/// A node as its parent knows it.
-#[derive(Clone, Copy)]
-pub(crate) struct Child<K> {
-    pub key: K,
-    pub page: u32,
-}
+use node::Entry;
 
-/// What an insert made of a node: its key, formed anew, and the node split off, if one was.
+/// What an insert made of a node: its key, formed anew, and the entry of the node split off, if one was.
 #[derive(Clone, Copy)]
 pub(crate) struct Change<K> {
     pub key: K,
-    pub split_off: Option<Child<K>>,
+    pub split_off: Option<Entry<K, u32>>,
 }
 
 impl<K> Change<K> {

@@ -1,18 +1,22 @@
 ghost use Rattle.std.specs.Prelude.{◌≡◌};
 ghost use Rattle.insertion.specs.Refusals.{number_of};
 
-use std::fmt;
+use thiserror::Error;
 
 /// Why an insert is not done.
-#[derive(Clone, Copy, PartialEq, Eq, Debug)]
+#[derive(Clone, Copy, PartialEq, Eq, Debug, Error)]
 pub enum InsertRefusal {
     /// All record numbers are used up.
+    #[error("refused 31: no record number is left")]
     NoNumberLeft,
     /// The tree has seven levels, and every page on the way of the key is full.
+    #[error("refused 32: the tree would have eight levels")]
     TooManyLevels,
     /// Fewer pages are free than the insert needs.
+    #[error("refused 33: {needed} pages are needed, {free} are free")]
     TooFewPages { needed: u32, free: u32 },
-    /// The pages form no tree, or the store breaks its rule. No index that was made and changed by its own calls meets this.
+    /// No index answers this: that there is a tree is part of its type.
+    #[error("the pages form no tree")]
     NotATree,
 }
 
@@ -26,23 +30,6 @@ impl InsertRefusal {
             InsertRefusal::TooManyLevels => Some(32),
             InsertRefusal::TooFewPages { needed: _, free: _ } => Some(33),
             InsertRefusal::NotATree => None,
-        }
-    }
-}
-
-impl fmt::Display for InsertRefusal {
-    fn fmt<W: fmt::Write>(&self, f: &mut fmt::Formatter<W>) -> fmt::Result {
-        match self {
-            InsertRefusal::NoNumberLeft => write!(f, "refused 31: no record number is left"),
-            InsertRefusal::TooManyLevels => write!(
-                f,
-                "refused 32: the tree would have eight levels"
-            ),
-            InsertRefusal::TooFewPages { needed, free } => write!(
-                f,
-                "refused 33: {needed} pages are needed, {free} are free"
-            ),
-            InsertRefusal::NotATree => write!(f, "the pages form no tree"),
         }
     }
 }

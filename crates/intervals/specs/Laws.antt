@@ -8,7 +8,7 @@ use Rattle.std.proofs.lemmas.Bool.Decides.{nat_tests}
 use Rattle.std.specs.Result.{result_ok}
 use Rattle.key_class.specs.Class.{Coded}
 use Rattle.key_class.specs.Refusals.{if_unused}
-use Rattle.key_class.proofs.Coding.{none_some, four_only, unused_ok}
+use Rattle.key_class.proofs.Coding.{four_only, unused_ok}
 use Rattle.intervals.specs.declared.interval.Interval.{Interval}
 use Rattle.intervals.specs.declared.interval.IntervalQuery.{IntervalQuery}
 use Rattle.intervals.specs.declared.interval.IntervalQuery.TheVariants.{Meets, Inside}
@@ -29,7 +29,7 @@ only_words low high c d (yes p) k e =
     let z = u.fourth in
     let a = u.answer in
     cc
-only_words low high c d (no n) k e = absurd (none_some e)
+only_words low high c d (no n) k e = cc
 
 pub interval_coded : Coded interval_growing
 interval_coded = record {

@@ -1,4 +1,4 @@
-ghost use Rattle.std.specs.Prelude.{◌≡◌, true, Decides, refl};
+ghost use Rattle.std.specs.Prelude.{◌≡◌, ◌↔◌, true, IsTrue, refl};
 ghost use Rattle.std.specs.Result.{result_map_both};
 ghost use Rattle.key_class.specs.Words.{of_four};
 ghost use Rattle.intervals.specs.Intervals.{covers, meets, matches, union, read_interval, interval_growing, interval_class};
@@ -9,31 +9,44 @@ ghost use Rattle.intervals.specs.Ranking.{split_shares};
 
 use crate::interval::{Interval, IntervalQuery};
 use crate::ranks::split_by_rank;
-use key_class::{Key, KeyClass, KeyRefusal, check_unused};
+use key_class::{Key, KeyClass, KeyRefusal, Span, check_unused};
 
-impl Interval {
-    /// The interval from a low word to a high one; the other two words are not used.
-    pub fn from_words(words: &[u32; 4]) -> Result<Interval, KeyRefusal>
-        ensures { result ≡ of_four read_interval words.now }
-    {
-        let [low, high, third, fourth] = *words;
+/// From a low word to a high one; the other two words are not used.
+impl TryFrom<[u32; 4]> for Interval {
+    type Error = KeyRefusal;
+
+    ghost try_from_gives = { λ words result. result ≡ of_four read_interval words };
+
+    fn try_from(words: [u32; 4]) -> Result<Interval, KeyRefusal> {
+        let [low, high, third, fourth] = words;
         if low > high {
             return Err(KeyRefusal::LowAboveHigh(0));
         }
         check_unused(third, fourth)?;
         Ok(Interval { low, high })
     }
+}
+
+impl Interval {
+    fn span(&self) -> Span<u32>
+        ensures { result ≡ record { low = self.now.low; high = self.now.high } }
+    {
+        Span {
+            low: self.low,
+            high: self.high,
+        }
+    }
 
     fn contains(&self, other: &Interval) -> bool
         ensures { result ≡ covers self.now other.now }
     {
-        self.low <= other.low && other.high <= self.high
+        self.span().contains(&other.span())
     }
 
     fn meets(&self, other: &Interval) -> bool
         ensures { result ≡ meets self.now other.now }
     {
-        self.low <= other.high && other.low <= self.high
+        self.span().meets(&other.span())
     }
 }
 
@@ -42,14 +55,14 @@ impl IntervalQuery {
     pub fn meets(words: &[u32; 4]) -> Result<IntervalQuery, KeyRefusal>
         ensures { result ≡ result_map_both Meets (λ e. e) (of_four read_interval words.now) }
     {
-        Ok(IntervalQuery::Meets(Interval::from_words(words)?))
+        Ok(IntervalQuery::Meets(Interval::try_from(*words)?))
     }
 
     /// Which intervals lie in this one?
     pub fn inside(words: &[u32; 4]) -> Result<IntervalQuery, KeyRefusal>
         ensures { result ≡ result_map_both Inside (λ e. e) (of_four read_interval words.now) }
     {
-        Ok(IntervalQuery::Inside(Interval::from_words(words)?))
+        Ok(IntervalQuery::Inside(Interval::try_from(*words)?))
     }
 }
 
@@ -70,9 +83,8 @@ impl Key for Interval {
     }
 
     fn growth(&self, other: &Interval) -> u64 {
-        let low = self.low.min(other.low);
-        let high = self.high.max(other.high);
-        u64::from(high - low) - u64::from(self.high - self.low)
+        let union = self.union(other);
+        u64::from(union.high - union.low) - u64::from(self.high - self.low)
     }
 
     fn squeeze(&self) -> [u32; 4] {
@@ -80,10 +92,11 @@ impl Key for Interval {
     }
 
     fn unsqueeze(words: &[u32; 4]) -> Option<Interval> {
-        Interval::from_words(words).ok()
+        Interval::try_from(*words).ok()
     }
 }
 
+// Each class answers the interface in its own words, so the three implementations look alike.
 // Beyond the interface: what covering and matching mean of the points.
 impl KeyClass for Interval {
     type Query = IntervalQuery;
@@ -104,14 +117,14 @@ impl KeyClass for Interval {
 
     fn covers(&self, other: &Interval) -> bool
         ensures value { result ≡ covers self.now other.now }
-        ensures points { Decides result (Contains self.now other.now) }
+        ensures points { IsTrue result ↔ Contains self.now other.now }
     {
         self.contains(other)
     }
 
     fn matches(&self, query: &IntervalQuery) -> bool
         ensures value { result ≡ matches self.now query.now }
-        ensures points { Decides result (Fulfils self.now query.now) }
+        ensures points { IsTrue result ↔ Fulfils self.now query.now }
     {
         match query {
             IntervalQuery::Meets(q) => self.meets(q),

@@ -1,17 +1,16 @@
-ghost use Rattle.std.specs.Prelude.{◌≡◌, ◌≤◌, map, length, take, slice_index};
-ghost use Rattle.intervals.specs.Ranks.{below, by_rank};
+ghost use Rattle.std.specs.Prelude.{◌≡◌, ◌+◌, ◌<◌, ◌≤◌, [], count_by, map, length, take, drop, nat_lt, nat_le, slice_index, slice_index_or};
+ghost use Rattle.intervals.specs.Ranks.{by_rank};
 
-// How many low ends, the first word of each key, are below `bound`.
-fn below(words: &[[u32; 4]], bound: u64) -> usize
-    ensures { (result ≡ below bound (map (λ w. slice_index w 0) words.now)) × (result ≤ length words.now) }
+// How many keys rank below the key at `i`: those with a lower low end, and earlier ones with the same.
+fn rank(words: &[[u32; 4]], i: usize) -> usize
+    requires { i < length words.now }
+    ensures { let low = slice_index (slice_index_or words.now i []) 0 in
+        result ≡ count_by (λ w. nat_le (slice_index w 0) low) (take i words.now) + count_by (λ w. nat_lt (slice_index w 0) low) (drop (i + 1) words.now) }
 {
-    let mut count = 0;
-    for w in words {
-        if u64::from(w[0]) < bound {
-            count += 1;
-        }
-    }
-    count
+    let low = words[i][0];
+    let earlier = words[..i].iter().filter(|w| w[0] <= low).count();
+    let later = words[i + 1..].iter().filter(|w| w[0] < low).count();
+    earlier + later
 }
 
 // Which of at most 15 keys go: those whose low end is not in the lower half by rank.
@@ -22,10 +21,9 @@ pub(crate) fn split_by_rank(words: &[[u32; 4]]) -> [bool; 15]
     let n = words.len();
     let half = n / 2;
     let mut goes = [false; 15];
-    for i in 0..n {
-        let low = u64::from(words[i][0]);
-        let rank = below(&words[0..i], low + 1) + below(&words[i + 1..n], low);
-        goes[i] = rank >= half;
+    // By place, which a rank depends on.
+    for (i, mark) in goes[..n].iter_mut().enumerate() {
+        *mark = rank(words, i) >= half;
     }
     goes
 }

@@ -1,32 +1,21 @@
-use anyhow::anyhow;
-use intervals::Interval;
+use crate::asked::Asked;
+use anyhow::{Context, anyhow};
 use key_class::{Key, KeyClass, KeyRefusal, union_of};
-use member_sets::SetKey;
-use rectangles::Rectangle;
 
-#[derive(Clone, Copy)]
-pub enum Class {
-    Interval,
-    Rectangle,
-    Set,
-}
-
-fn first(keys: &[[u32; 4]]) -> [u32; 4] {
-    keys.first().copied().unwrap_or([0; 4])
-}
-
-pub fn show_refusal(rt: &HostRuntime, refusal: KeyRefusal) -> anyhow::Result<()> {
+fn show_refusal(rt: &impl Print, refusal: KeyRefusal) -> anyhow::Result<()> {
     let number = refusal.number();
     match refusal {
-        KeyRefusal::LowAboveHigh(place) => println!(rt; "refused {number} {place}")?,
-        KeyRefusal::UnusedNotZero(place) => println!(rt; "refused {number} {place}")?,
+        KeyRefusal::LowAboveHigh(place) | KeyRefusal::UnusedNotZero(place) => {
+            println!(rt; "refused {number} {place}")?;
+        }
         KeyRefusal::NoMember => println!(rt; "refused {number}")?,
     }
     Ok(())
 }
 
-fn show_key<K: Key>(rt: &HostRuntime, key: Result<K, KeyRefusal>) -> anyhow::Result<()> {
-    match key {
+pub fn single<K: Asked>(rt: &impl Print, keys: &[[u32; 4]]) -> anyhow::Result<()> {
+    let words = keys.first().copied().unwrap_or([0; 4]);
+    match K::try_from(words) {
         Ok(key) => {
             let [a, b, c, d] = key.squeeze();
             println!(rt; "key {a} {b} {c} {d}")?;
@@ -36,16 +25,7 @@ fn show_key<K: Key>(rt: &HostRuntime, key: Result<K, KeyRefusal>) -> anyhow::Res
     }
 }
 
-pub fn single(rt: &HostRuntime, class: Class, keys: &[[u32; 4]]) -> anyhow::Result<()> {
-    let words = first(keys);
-    match class {
-        Class::Interval => show_key(rt, Interval::from_words(&words)),
-        Class::Rectangle => show_key(rt, Rectangle::from_words(&words)),
-        Class::Set => show_key(rt, SetKey::from_words(&words)),
-    }
-}
-
-pub fn pair<K: KeyClass>(rt: &HostRuntime, keys: &[[u32; 4]]) -> anyhow::Result<()> {
+pub fn pair<K: KeyClass>(rt: &impl Print, keys: &[[u32; 4]]) -> anyhow::Result<()> {
     let [a, b] = keys else {
         return Err(anyhow!("a pair is two keys"));
     };
@@ -61,7 +41,7 @@ pub fn pair<K: KeyClass>(rt: &HostRuntime, keys: &[[u32; 4]]) -> anyhow::Result<
     Ok(())
 }
 
-pub fn join<K: KeyClass>(rt: &HostRuntime, keys: &[[u32; 4]]) -> anyhow::Result<()> {
+pub fn join<K: KeyClass>(rt: &impl Print, keys: &[[u32; 4]]) -> anyhow::Result<()> {
     match union_of::<K>(keys) {
         Some(union) => {
             let [w, x, y, z] = union.squeeze();
@@ -72,15 +52,30 @@ pub fn join<K: KeyClass>(rt: &HostRuntime, keys: &[[u32; 4]]) -> anyhow::Result<
     Ok(())
 }
 
-pub fn split<K: KeyClass>(rt: &HostRuntime, keys: &[[u32; 4]]) -> anyhow::Result<()> {
+pub fn split<K: KeyClass>(rt: &impl Print, keys: &[[u32; 4]]) -> anyhow::Result<()> {
     let goes = K::pick_split(keys);
     for goes in goes.iter().take(keys.len()) {
-        if *goes {
-            print!(rt; "g")?;
-        } else {
-            print!(rt; "s")?;
-        }
+        let mark = if *goes { 'g' } else { 's' };
+        print!(rt; "{mark}")?;
     }
     println!(rt; "")?;
+    Ok(())
+}
+
+pub fn ask<K: Asked>(rt: &impl Print, name: &str, keys: &[[u32; 4]]) -> anyhow::Result<()> {
+    let [key, words] = keys else {
+        return Err(anyhow!("a key and a question are asked for"));
+    };
+    match K::question(name, words).context("no such question")? {
+        Ok(query) => match K::unsqueeze(key) {
+            Some(key) => {
+                let matches = key.matches(&query);
+                let may_hold = key.may_hold(&query);
+                println!(rt; "matches {matches} may hold {may_hold}")?;
+            }
+            None => println!(rt; "no key")?,
+        },
+        Err(refusal) => show_refusal(rt, refusal)?,
+    }
     Ok(())
 }

@@ -10,73 +10,55 @@
 //!                             all, shares or within
 #![tactic(auto)]
 
-mod ask;
+mod asked;
 mod keys;
 mod read;
 
-use anyhow::anyhow;
-use ask::ask;
+use anyhow::{Context, anyhow};
+use asked::Asked;
 use intervals::Interval;
-use keys::{Class, join, pair, single, split};
+use keys::{ask, join, pair, single, split};
 use member_sets::SetKey;
-use read::read_keys;
+use read::read_numbers;
 use rectangles::Rectangle;
+use std::alloc::Global;
 use std::io::{BufRead, BufReader};
+use std::str::Split;
 
-fn class_of(name: &str) -> Option<Class> {
-    match name {
-        "interval" => Some(Class::Interval),
-        "rectangle" => Some(Class::Rectangle),
-        "set" => Some(Class::Set),
-        _ => None,
-    }
-}
-
-fn answer(rt: &HostRuntime, class: Class, asked: &str, keys: &[[u32; 4]]) -> anyhow::Result<()> {
+fn answer<K: Asked>(
+    rt: &impl Print,
+    heap: Global,
+    asked: &str,
+    parts: Split<'_, char>,
+) -> anyhow::Result<()> {
+    let numbers = read_numbers(heap, parts)?;
+    let (keys, _) = numbers.as_chunks::<4>();
     match asked {
-        "key" => single(rt, class, keys),
-        "pair" => match class {
-            Class::Interval => pair::<Interval>(rt, keys),
-            Class::Rectangle => pair::<Rectangle>(rt, keys),
-            Class::Set => pair::<SetKey>(rt, keys),
-        },
-        "join" => match class {
-            Class::Interval => join::<Interval>(rt, keys),
-            Class::Rectangle => join::<Rectangle>(rt, keys),
-            Class::Set => join::<SetKey>(rt, keys),
-        },
-        "split" => match class {
-            Class::Interval => split::<Interval>(rt, keys),
-            Class::Rectangle => split::<Rectangle>(rt, keys),
-            Class::Set => split::<SetKey>(rt, keys),
-        },
-        _ => ask(rt, class, asked, keys),
+        "key" => single::<K>(rt, keys),
+        "pair" => pair::<K>(rt, keys),
+        "join" => join::<K>(rt, keys),
+        "split" => split::<K>(rt, keys),
+        _ => ask::<K>(rt, asked, keys),
     }
 }
 
-fn line_answer(rt: &HostRuntime, line: &str) -> anyhow::Result<()> {
+fn line_answer(rt: &impl Print, heap: Global, line: &str) -> anyhow::Result<()> {
     let mut parts = line.split(' ');
-    let Some(name) = parts.next() else {
-        return Err(anyhow!("an empty line"));
-    };
-    let Some(asked) = parts.next() else {
-        return Err(anyhow!("nothing is asked"));
-    };
-    let Some(class) = class_of(name) else {
-        return Err(anyhow!("no such class"));
-    };
-    let keys = read_keys(rt.alloc(), parts)?;
-    answer(rt, class, asked, &keys)
-}
-
-fn run(rt: &HostRuntime) -> anyhow::Result<()> {
-    for line in BufReader::new(rt.alloc(), rt.stdin())?.lines(rt.alloc()) {
-        let line = line?;
-        line_answer(rt, &line)?;
+    let class = parts.next().context("an empty line")?;
+    let asked = parts.next().context("nothing is asked")?;
+    // What is read is text, so the class is looked up here, and only here.
+    match class {
+        "interval" => answer::<Interval>(rt, heap, asked, parts),
+        "rectangle" => answer::<Rectangle>(rt, heap, asked, parts),
+        "set" => answer::<SetKey>(rt, heap, asked, parts),
+        _ => Err(anyhow!("no such class")),
     }
-    Ok(())
 }
 
 fn main(rt: HostRuntime) -> anyhow::Result<()> {
-    run(&rt)
+    let heap = rt.alloc();
+    for line in BufReader::new(heap, rt.stdin())?.lines(heap) {
+        line_answer(&rt, heap, &line?)?;
+    }
+    Ok(())
 }

@@ -1,20 +1,10 @@
 use std::alloc::Global;
 use std::str::Split;
 
-// Numbers by fours, each a key's words.
-pub fn read_keys(heap: Global, parts: Split<'_, char>) -> anyhow::Result<Vec<[u32; 4]>> {
-    let mut keys = Vec::new(heap);
-    let mut key = [0; 4];
-    let mut place = 0;
+pub fn read_numbers(heap: Global, parts: Split<'_, char>) -> anyhow::Result<Vec<u32>> {
+    let mut numbers = Vec::new(heap);
     for part in parts {
-        if place < 4 {
-            key[place] = part.parse::<u32>()?;
-            place += 1;
-        }
-        if place == 4 {
-            keys.push(key)?;
-            place = 0;
-        }
+        numbers.push(part.parse::<u32>()?)?;
     }
-    Ok(keys)
+    Ok(numbers)
 }

@@ -1,26 +1,26 @@
 -- The seeds are two places, and each group of a quadratic split gets four keys.
-use Rattle.std.proofs.Common.{◌≡◌, ℕ, suc, ◌+◌, ◌<◌, ◌≤◌, Bool, true, false, cond, T, eqb, ltb, leb, ◌⊎◌, List, [], ◌∷◌, length, get_or, refl, ap, subst, inl, inr, arith, eqb→eq}
-use lib.Dec.{eqb_refl}
-use Rattle.std.proofs.lemmas.Bool.Decides.{leb_tells}
+use Rattle.std.proofs.Common.{◌≡◌, ◌≢◌, ℕ, suc, ◌+◌, ◌<◌, ◌≤◌, Bool, true, false, if◌then◌else◌, eqb, ltb, leb, ◌⊎◌, List, [], ◌∷◌, length, get_or, refl, ap, inl, inr, arith, true≢false}
+use Rattle.std.proofs.lemmas.Bool.{false≢true}
+use Rattle.std.proofs.lemmas.Bool.Decides.{eqb_tells, nat_tests}
 use Rattle.key_class.specs.declared.groups.Groups.{Groups}
 use Rattle.key_class.specs.declared.groups.Seeds.{Seeds}
 use Rattle.key_class.specs.Class.{Growing, Shares, staying, going}
-use Rattle.key_class.specs.Quadratic.{larger_growth, worst_after, worst_from, first_pair, seeds_of, goes_next, chosen, placed, next, marks_from, begun, quadratic}
+use Rattle.key_class.specs.Quadratic.{larger_growth, worst_after, worst_from, first_pair, seeds_of, size, begun, goes_next, placed, mark, next, marks_from, quadratic}
 
 pub record Within (n : ℕ) (s : Seeds) : Type 0 where
   pub ordered : s.first < s.second
   pub below : s.second < n
 
-worse_within : (n : ℕ) (s t : Seeds) (b : Bool) → Within n s → Within n t → Within n (cond b t s)
+worse_within : (n : ℕ) (s t : Seeds) (b : Bool) → Within n s → Within n t → Within n (if b then t else s)
 worse_within n s t true h k = k
 worse_within n s t false h k = h
 
-pub after_within : {K : Type 0} (G : Growing K) (a : K) (n i j : ℕ) (ks : List K) (s : Seeds) → i < j → j + length ks ≡ n → Within n s → Within n (worst_after G a i j ks s)
+after_within : {K : Type 0} (G : Growing K) (a : K) (n i j : ℕ) (ks : List K) (s : Seeds) → i < j → j + length ks ≡ n → Within n s → Within n (worst_after G a i j ks s)
 after_within G a n i j [] s l e h = h
 after_within G a n i j (k ∷ ks) s l e h =
     after_within G a n i (j + 1) ks _ (omega arith) (omega arith) (worse_within n s _ (ltb s.growth (larger_growth G a k)) h (record { ordered = l; below = omega arith }))
 
-pub from_within : {K : Type 0} (G : Growing K) (n i : ℕ) (ks : List K) (s : Seeds) → i + length ks ≡ n → Within n s → Within n (worst_from G i ks s)
+from_within : {K : Type 0} (G : Growing K) (n i : ℕ) (ks : List K) (s : Seeds) → i + length ks ≡ n → Within n s → Within n (worst_from G i ks s)
 from_within G n i [] s e h = h
 from_within G n i (a ∷ ks) s e h = from_within G n (i + 1) ks _ (omega arith) (after_within G a n i (i + 1) ks s (omega arith) (omega arith) h)
 
@@ -29,77 +29,94 @@ seeds_within G ks h = from_within G (length ks) 0 ks first_pair (omega arith) (r
 
 -- A test as a number.
 abbrev one : Bool → ℕ
-one b = cond b 1 0
+one b = if b then 1 else 0
 
-leb_one : (a b : ℕ) → ((one (leb a b) ≡ 1) × (a ≤ b)) ⊎ ((one (leb a b) ≡ 0) × (b < a))
-leb_one a b = go (leb_tells a b)
-  where
-    go : ((leb a b ≡ true) × (a ≤ b)) ⊎ ((leb a b ≡ false) × (b < a)) → ((one (leb a b) ≡ 1) × (a ≤ b)) ⊎ ((one (leb a b) ≡ 0) × (b < a))
-    go (inl h) = inl (ap one h.0, h.1)
-    go (inr h) = inr (ap one h.0, h.1)
+-- One place on, the seed at i is still to come unless the place was its own.
+passed : (p i : ℕ) → (p ≡ i → one (leb p i) ≡ one (leb (p + 1) i) + 1) × (p ≢ i → one (leb p i) ≡ one (leb (p + 1) i))
+    × (((one (leb (p + 1) i) ≡ 1) × (p < i)) ⊎ ((one (leb (p + 1) i) ≡ 0) × (i ≤ p)))
+passed p i = (λ e. grind (arith, nat_tests), λ n. grind (arith, nat_tests), grind (arith, nat_tests))
 
-eq→eqb : (a b : ℕ) → a ≡ b → T (eqb a b)
-eq→eqb a b e = subst (λ x. T (eqb a x)) e (eqb_refl a)
+at_first : (i : ℕ) → one (leb 0 i) ≡ 1
+at_first i = grind (arith, nat_tests)
 
--- What goes_next says of a group that has just enough
-data Next (s g l : ℕ) : Bool → Type 0 where
-  stays : (s + l ≡ 4) ⊎ (g + l ≡ 4 → ⊥) → Next s g l false
-  goes : (s + l ≡ 4 → ⊥) → Next s g l true
+-- What becomes of the key k at place p: its mark, and the groups then.
+module _ {K : Type 0} (G : Growing K) (s : Seeds) (p : ℕ) (g : Groups K) (k : K) where
+  pub data Turn : Bool → Groups K → Type 0 where
+    first : p ≡ s.first → Turn false g
+    second : p ≢ s.first → p ≡ s.second → Turn true g
+    goes : p ≢ s.first → p ≢ s.second → g.stay.count + g.left ≢ 4 → Turn true (placed G g k true)
+    stays : p ≢ s.first → p ≢ s.second → (g.stay.count + g.left ≡ 4) ⊎ (g.go.count + g.left ≢ 4) → Turn false (placed G g k false)
 
-next_is : (s g l a b : ℕ) → Next s g l (goes_next s g l a b)
-next_is s g l a b = go (eqb (s + l) 4) (eqb (g + l) 4) (ltb a b) (ltb b a) (ltb g s) (eqb→eq (s + l) 4) (eq→eqb (s + l) 4) (eq→eqb (g + l) 4)
-  where
-    go : (p q t u v : Bool) → (T p → s + l ≡ 4) → (s + l ≡ 4 → T p) → (g + l ≡ 4 → T q) → Next s g l (cond p false (cond q true (cond t false (cond u true v))))
-    go true q t u v f f' k = stays (inl (f tt))
-    go false true t u v f f' k = goes f'
-    go false false true u v f f' k = stays (inr k)
-    go false false false true v f f' k = goes f'
-    go false false false false true f f' k = goes f'
-    go false false false false false f f' k = stays (inr k)
+  -- A group that needs all that are left gets the next key.
+  why_goes : goes_next G g k ≡ true → g.stay.count + g.left ≢ 4
+  why_goes e = grind (arith, nat_tests)
 
--- From p on, what is known of the groups and the n keys that are left, and what the marks then give
-abbrev Ready : {K : Type 0} → (i j p : ℕ) → Groups K → ℕ → Type 0
-Ready i j p g n = (g.left + one (leb p i) + one (leb p j) ≡ n) × (4 ≤ g.stays + g.left) × (4 ≤ g.goes + g.left) × (8 ≤ g.stays + g.goes + g.left) × (j < p + n)
+  why_stays : goes_next G g k ≡ false → (g.stay.count + g.left ≡ 4) ⊎ (g.go.count + g.left ≢ 4)
+  why_stays e = grind (arith, nat_tests)
 
-abbrev Enough : {K : Type 0} → (i j p : ℕ) → Groups K → List Bool → Type 0
-Enough i j p g bs = (4 + one (leb p i) ≤ g.stays + staying bs) × (4 + one (leb p j) ≤ g.goes + going bs)
+  pub turn : Turn (mark G s p g k) (next G s p g k)
+  turn = at (eqb p s.first) (eqb p s.second) (goes_next G g k) (eqb_tells p s.first) (eqb_tells p s.second) why_goes why_stays
+    where
+      at : (x y b : Bool) → ((x ≡ true) × (p ≡ s.first)) ⊎ ((x ≡ false) × (p ≢ s.first)) → ((y ≡ true) × (p ≡ s.second)) ⊎ ((y ≡ false) × (p ≢ s.second))
+          → (b ≡ true → g.stay.count + g.left ≢ 4) → (b ≡ false → (g.stay.count + g.left ≡ 4) ⊎ (g.go.count + g.left ≢ 4))
+          → Turn (if x then false else if y then true else b) (if x then g else if y then g else placed G g k b)
+      at true y b (inl u) t e f = first u.1
+      at false true b (inr u) (inl t) e f = second u.1 t.1
+      at false false true (inr u) (inr t) e f = goes u.1 t.1 (e refl)
+      at false false false (inr u) (inr t) e f = stays u.1 t.1 (f refl)
+      at true y b (inr u) t e f = absurd (true≢false u.0)
+      at false y b (inl u) t e f = absurd (false≢true u.0)
+      at false true b (inr u) (inr t) e f = absurd (true≢false t.0)
+      at false false b (inr u) (inl t) e f = absurd (false≢true t.0)
 
-module _ {K : Type 0} (G : Growing K) (i j : ℕ) (i<j : i < j) where
-  step : (p n : ℕ) (g : Groups K) (k : K) (rest : Groups K → List Bool) (x y c : Bool) → (T x → p ≡ i) → (p ≡ i → T x) → (T y → p ≡ j) → (p ≡ j → T y) → Next g.stays g.goes g.left c → Ready i j p g (suc n) → ((g' : Groups K) → Ready i j (p + 1) g' n → Enough i j (p + 1) g' (rest g')) → Enough i j p g (cond x false (cond y true c) ∷ rest (cond x g (cond y g (placed G g k c))))
-  step p n g k rest true y c f f' h h' z r ih =
-      let e = f tt in
-      let a = leb_one p i in let a' = leb_one (p + 1) i in let b = leb_one p j in let b' = leb_one (p + 1) j in
-      let q = ih g (omega arith, r.1, r.2, r.3, omega arith) in (omega arith, omega arith)
-  step p n g k rest false true c f f' h h' z r ih =
-      let e = h tt in
-      let a = leb_one p i in let a' = leb_one (p + 1) i in let b = leb_one p j in let b' = leb_one (p + 1) j in
-      let q = ih g (omega arith, r.1, r.2, r.3, omega arith) in (omega arith, omega arith)
-  step p n g k rest false false true f f' h h' (goes z) r ih =
-      let ne : p ≡ i → ⊥ = f' in let ne' : p ≡ j → ⊥ = h' in
-      let a = leb_one p i in let a' = leb_one (p + 1) i in let b = leb_one p j in let b' = leb_one (p + 1) j in
-      let q = ih (placed G g k true) (omega arith, omega arith, omega arith, omega arith, omega arith) in (omega arith, omega arith)
-  step p n g k rest false false false f f' h h' (stays z) r ih =
-      let ne : p ≡ i → ⊥ = f' in let ne' : p ≡ j → ⊥ = h' in
-      let a = leb_one p i in let a' = leb_one (p + 1) i in let b = leb_one p j in let b' = leb_one (p + 1) j in
-      let q = ih (placed G g k false) (omega arith, omega arith, omega arith, omega arith, omega arith) in (omega arith, omega arith)
+-- What is known of the groups of n keys, with the seeds s, at place p: the keys in neither group, and the seeds still
+-- to come, are the keys from there on.
+pub record Fair {K : Type 0} (s : Seeds) (n p : ℕ) (g : Groups K) : Type 0 where
+  pub left : p + (g.left + one (leb p s.first) + one (leb p s.second)) ≡ n
+  pub all : size g ≡ n
+  pub four_stay : 8 ≤ n → 4 ≤ g.stay.count + g.left
+  pub four_go : 8 ≤ n → 4 ≤ g.go.count + g.left
 
-  enough : (p : ℕ) (g : Groups K) (ks : List K) → Ready i j p g (length ks) → Enough i j p g (marks_from G i j p g ks)
-  enough p g [] r = (omega arith, omega arith)
-  enough p g (k ∷ ks) r =
-      step p (length ks) g k (λ g'. marks_from G i j (p + 1) g' ks) (eqb p i) (eqb p j) (chosen G g k) (eqb→eq p i) (eq→eqb p i) (eqb→eq p j) (eq→eqb p j)
-      (next_is g.stays g.goes g.left (G.growth g.stay k) (G.growth g.go k)) r (λ g' r'. enough (p + 1) g' ks r')
+module _ {K : Type 0} (G : Growing K) (s : Seeds) (n : ℕ) (ordered : s.first < s.second) (below : s.second < n) where
+  pub fair_begun : (a b : K) → Fair s n 0 (begun a b n)
+  fair_begun a b = let c = at_first s.first in let d = at_first s.second in record { left = omega arith; all = omega arith; four_stay = λ h. omega arith; four_go = λ h. omega arith }
 
-  length_marks : (p : ℕ) (g : Groups K) (ks : List K) → length (marks_from G i j p g ks) ≡ length ks
+  pub fair_on : (p : ℕ) (g : Groups K) (k : K) → p < n → Fair s n p g → (b : Bool) (g' : Groups K) → Turn G s p g k b g' → Fair s n (p + 1) g'
+  fair_on p g k l r _ _ (first e) = let a = passed p s.first in let b = passed p s.second in record { left = omega arith; all = r.all; four_stay = r.four_stay; four_go = r.four_go }
+  fair_on p g k l r _ _ (second d e) = let a = passed p s.first in let b = passed p s.second in record { left = omega arith; all = r.all; four_stay = r.four_stay; four_go = r.four_go }
+  fair_on p g k l r _ _ (goes d e f) = let a = passed p s.first in let b = passed p s.second in record { left = omega arith; all = omega arith; four_stay = λ h. omega arith; four_go = λ h. omega arith }
+  fair_on p g k l r _ _ (stays d e f) = let a = passed p s.first in let b = passed p s.second in record { left = omega arith; all = omega arith; four_stay = λ h. omega arith; four_go = λ h. omega arith }
+
+  -- The groups get four each by the marks bs of the keys from place p on.
+  record Enough (p : ℕ) (g : Groups K) (bs : List Bool) : Type 0 where
+    stay : 4 + one (leb p s.first) ≤ g.stay.count + staying bs
+    go : 4 + one (leb p s.second) ≤ g.go.count + going bs
+
+  enough_back : (p : ℕ) (g : Groups K) (k : K) (bs : List Bool) (b : Bool) (g' : Groups K) → Turn G s p g k b g' → Enough (p + 1) g' bs → Enough p g (b ∷ bs)
+  enough_back p g k bs _ _ (first e) q = let a = passed p s.first in let b = passed p s.second in record { stay = omega arith; go = omega arith }
+  enough_back p g k bs _ _ (second d e) q = let a = passed p s.first in let b = passed p s.second in record { stay = omega arith; go = omega arith }
+  enough_back p g k bs _ _ (goes d e f) q = let a = passed p s.first in let b = passed p s.second in record { stay = omega arith; go = omega arith }
+  enough_back p g k bs _ _ (stays d e f) q = let a = passed p s.first in let b = passed p s.second in record { stay = omega arith; go = omega arith }
+
+  enough : 8 ≤ n → (p : ℕ) (g : Groups K) (ks : List K) → p + length ks ≡ n → Fair s n p g → Enough p g (marks_from G s p g ks)
+  enough h p g [] e r = let a = passed p s.first in let b = passed p s.second in record { stay = omega arith; go = omega arith }
+  enough h p g (k ∷ ks) e r =
+      let t = turn G s p g k in
+      enough_back p g k (marks_from G s (p + 1) (next G s p g k) ks) _ _ t (enough h (p + 1) (next G s p g k) ks (omega arith) (fair_on p g k (omega arith) r _ _ t))
+
+  length_marks : (p : ℕ) (g : Groups K) (ks : List K) → length (marks_from G s p g ks) ≡ length ks
   length_marks p g [] = refl
-  length_marks p g (k ∷ ks) = ap suc (length_marks (p + 1) (next G i j p g k) ks)
+  length_marks p g (k ∷ ks) = ap suc (length_marks (p + 1) (next G s p g k) ks)
 
 pub quadratic_shares : {K : Type 0} (G : Growing K) (ks : List K) → 13 ≤ length ks → length ks ≤ 15 → Shares (length ks) (quadratic G ks)
 quadratic_shares G [] low high = absurd (omega arith)
 quadratic_shares G (k ∷ ks) low high =
     let s = seeds_of G (k ∷ ks) in
+    let n = length (k ∷ ks) in
     let w = seeds_within G (k ∷ ks) (omega arith) in
-    let g = begun (get_or (k ∷ ks) s.first k) (get_or (k ∷ ks) s.second k) (length (k ∷ ks)) in
-    let a = leb_one 0 s.first in
-    let b = leb_one 0 s.second in
-    let e = enough G s.first s.second w.ordered 0 g (k ∷ ks) (omega arith, omega arith, omega arith, omega arith, omega arith) in
-    record { each = length_marks G s.first s.second w.ordered 0 g (k ∷ ks); four_stay = omega arith; four_go = omega arith }
+    let a = get_or (k ∷ ks) s.first k in
+    let b = get_or (k ∷ ks) s.second k in
+    let e = enough G s n w.ordered w.below (omega arith) 0 (begun a b n) (k ∷ ks) (omega arith) (fair_begun G s n w.ordered w.below a b) in
+    let c = at_first s.first in
+    let d = at_first s.second in
+    record { each = length_marks G s n w.ordered w.below 0 (begun a b n) (k ∷ ks); four_stay = omega arith; four_go = omega arith }

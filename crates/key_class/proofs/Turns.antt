@@ -1,77 +1,102 @@
 -- The loops of the quadratic split, one turn on.
-use Rattle.std.proofs.Common.{◌≡◌, ℕ, ◌+◌, ◌<◌, ◌≤◌, Bool, true, false, cond, eqb, List, [], ◌∷◌, ◌++◌, length, get_or, take, drop, set, sym, ap, ◌∙◌, subst, arith}
-use Rattle.std.proofs.lemmas.List.{at_drop_more, take_more_set, append_assoc, get_or_default}
-use Rattle.std.proofs.lemmas.Bool.{cond-true, cond-false, lt-ltb, le-ltb, eq-eqb, ne_eqb}
+use Rattle.std.proofs.Common.{◌≡◌, ◌≢◌, ℕ, ◌+◌, ◌<◌, ◌≤◌, Bool, true, false, ◌⊎◌, ◌==◌, List, [], ◌∷◌, ◌++◌, length, get_or, take, drop, set, replicate, slice_get, Some, IfSome, inl, inr, sym, refl, ap, ap₂, ◌∙◌, subst, arith, append-nil, length-set, length-take-le, get_or-set_other, get_or-set_same, get_or-take, take_all, take_at}
+use Rattle.std.proofs.lemmas.List.{take_more, take_more_set, append_assoc, get_or-replicate, at_drop_all}
+use Rattle.std.proofs.lemmas.Option.{slice_get_cases, MatchOption-at_some, slice_get_within, slice_get-get_or, get_or_from_slice_get}
+use Rattle.std.proofs.lemmas.Bool.Decides.{eqb_tells, nat_tests}
 use Rattle.key_class.specs.declared.groups.Groups.{Groups}
 use Rattle.key_class.specs.declared.groups.Seeds.{Seeds}
-use Rattle.key_class.specs.Class.{Growing, Coded}
-use Rattle.key_class.specs.Words.{AllKeys, keys_of}
-use Rattle.key_class.specs.Quadratic.{larger_growth, worse, worst_after, worst_from, mark, next, placed, chosen, marks_from, begun, split_at, quadratic, seeds_of}
-use Rattle.key_class.proofs.Sharing.{Within, seeds_within}
-use Rattle.key_class.proofs.Coding.{length_keys}
+use Rattle.key_class.specs.Class.{Growing}
+use Rattle.key_class.specs.Quadratic.{larger_growth, worse, worst_after, worst_from, goes_next, placed, mark, next, marks_from, begun, split_at, quadratic, seeds_of}
+use Rattle.key_class.proofs.Coding.{drop_at}
+use Rattle.key_class.proofs.Sharing.{Fair, fair_begun, fair_on, turn}
 
-abbrev pair : ℕ → ℕ → ℕ → Seeds
-pair i j n = record { first = i; second = j; growth = n }
-
-pub worse_takes : (s t : Seeds) (i j n m : ℕ) → t ≡ pair i j n → s.growth < n → n ≡ m → t ≡ worse s (pair i j m)
-worse_takes s t i j n m e h f = e ∙ ap (pair i j) f ∙ sym (cond-true _ (pair i j m) s (lt-ltb s.growth m (omega arith)))
-
-pub worse_keeps : (s t : Seeds) (i j n m : ℕ) → t ≡ s → n ≤ s.growth → n ≡ m → t ≡ worse s (pair i j m)
-worse_keeps s t i j n m e h f = e ∙ sym (cond-false _ (pair i j m) s (le-ltb s.growth m (omega arith)))
+-- The first n marks before the loop.
+one_true : (n j q : ℕ) → n ≤ 15 → j < n → q < n → get_or (take n (set (replicate 15 false) j true)) q false ≡ (q == j)
+one_true n j q m h l = get_or-take n (set (replicate 15 false) j true) q false l ∙ elim (eqb_tells q j) [
+  | inl e ↦ rw e.1 (get_or-set_same (replicate 15 false) j true false (omega arith)) ∙ sym e.0
+  | inr d ↦ get_or-set_other (replicate 15 false) j q true false d.1 ∙ get_or-replicate 15 q false false (omega arith) ∙ sym d.0
+]
 
 module _ {K : Type 0} (G : Growing K) where
-  pub after_more : (a : K) (i j : ℕ) (ks : List K) (k : K) (s t : Seeds) → j < length ks → k ≡ get_or ks j k → t ≡ worse s (pair i j (larger_growth G a k)) → worst_after G a i (j + 1) (drop (j + 1) ks) t ≡ worst_after G a i j (drop j ks) s
-  after_more a i j ks k s t h r e =
-      let d : worst_after G a i j (drop j ks) s ≡ worst_after G a i (j + 1) (drop (j + 1) ks) (worse s (pair i j (larger_growth G a (get_or ks j k)))) = at_drop_more (λ l. worst_after G a i j l s) ks j k h in
-      ap (worst_after G a i (j + 1) (drop (j + 1) ks)) (e ∙ ap (λ x. worse s (pair i j (larger_growth G a x))) r) ∙ sym d
+  pub after_more : (a : K) (i j : ℕ) (ks : List K) (b : K) (s t : Seeds) (n : ℕ) → slice_get ks j ≡ Some b → n ≡ larger_growth G a b → t ≡ worse s (record { first = i; second = j; growth = n })
+      → worst_after G a i (j + 1) (drop (j + 1) ks) t ≡ worst_after G a i j (drop j ks) s
+  after_more a i j ks b s t n h e f =
+      ap (worst_after G a i (j + 1) (drop (j + 1) ks)) (f ∙ ap (λ m. worse s (record { first = i; second = j; growth = m })) e) ∙ ap (λ l. worst_after G a i j l s) (sym (drop_at ks j b h))
 
-  pub from_more : (i : ℕ) (ks : List K) (a : K) (s t : Seeds) → i < length ks → a ≡ get_or ks i a → t ≡ worst_after G a i (i + 1) (drop (i + 1) ks) s → worst_from G (i + 1) (drop (i + 1) ks) t ≡ worst_from G i (drop i ks) s
-  from_more i ks a s t h r e =
-      let d : worst_from G i (drop i ks) s ≡ worst_from G (i + 1) (drop (i + 1) ks) (worst_after G (get_or ks i a) i (i + 1) (drop (i + 1) ks) s) = at_drop_more (λ l. worst_from G i l s) ks i a h in
-      ap (worst_from G (i + 1) (drop (i + 1) ks)) (e ∙ ap (λ x. worst_after G x i (i + 1) (drop (i + 1) ks) s) r) ∙ sym d
+  pub from_more : (i : ℕ) (ks : List K) (s t : Seeds) → i < length ks → IfSome (slice_get ks i) (λ a. t ≡ worst_after G a i (i + 1) (drop (i + 1) ks) s)
+      → worst_from G (i + 1) (drop (i + 1) ks) t ≡ worst_from G i (drop i ks) s
+  from_more i ks s t l h = elim (slice_get_cases ks i).1 [
+    | inl p ↦ (let a = p.0 in
+        ap (worst_from G (i + 1) (drop (i + 1) ks)) (MatchOption-at_some _ (λ a. t ≡ worst_after G a i (i + 1) (drop (i + 1) ks) s) a p.2 h)
+        ∙ ap (λ l. worst_from G i l s) (sym (drop_at ks i a p.2)))
+    | inr p ↦ absurd (omega arith)
+  ]
 
-  pub marks_more : (i j p : ℕ) (ks : List K) (k : K) (g g' : Groups K) (marks : List Bool) (b : Bool) → p < length ks → p < length marks → k ≡ get_or ks p k → b ≡ mark G i j p g k → g' ≡ next G i j p g k → take (p + 1) (set marks p b) ++ marks_from G i j (p + 1) g' (drop (p + 1) ks) ≡ take p marks ++ marks_from G i j p g (drop p ks)
-  marks_more i j p ks k g g' marks b h l r e f =
-      let d : marks_from G i j p g (drop p ks) ≡ mark G i j p g (get_or ks p k) ∷ marks_from G i j (p + 1) (next G i j p g (get_or ks p k)) (drop (p + 1) ks) = at_drop_more (marks_from G i j p g) ks p k h in
-      let d' : mark G i j p g k ∷ marks_from G i j (p + 1) (next G i j p g k) (drop (p + 1) ks) ≡ mark G i j p g (get_or ks p k) ∷ marks_from G i j (p + 1) (next G i j p g (get_or ks p k)) (drop (p + 1) ks) = ap (λ x. mark G i j p g x ∷ marks_from G i j (p + 1) (next G i j p g x) (drop (p + 1) ks)) r in
-      rw (take_more_set marks p b l, append_assoc, e, f) (ap (λ m. take p marks ++ m) (d' ∙ sym d))
+  -- What the loop of the marks has done before place p.
+  pub record Marked (s : Seeds) (ks : List K) (p : ℕ) (g : Groups K) (marks : List Bool) : Type 0 where
+    pub long : length marks ≡ length ks
+    pub fair : Fair s (length ks) p g
+    pub rest : (q : ℕ) → p ≤ q → q < length ks → get_or marks q false ≡ (q == s.second)
+    pub so_far : take p marks ++ marks_from G s p g (drop p ks) ≡ quadratic G ks
 
-  pub seeds_at : (C : Coded G) (ws : List (List ℕ)) (s : Seeds) → AllKeys G ws → 2 ≤ length ws → s ≡ seeds_of G (keys_of G ws) → Within (length ws) s
-  seeds_at C ws s h l e =
-      let n = length_keys C ws h in
-      subst (λ m. Within m s) n (subst (λ t. Within (length (keys_of G ws)) t) (sym e) (seeds_within G (keys_of G ws) (omega arith)))
+  at_seed : (s : Seeds) (p : ℕ) (g : Groups K) (k : K) → s.first < s.second → (p ≡ s.first) ⊎ (p ≡ s.second) → ((p == s.second) ≡ mark G s p g k) × (g ≡ next G s p g k)
+  at_seed s p g k l h = grind (arith, nat_tests)
 
-  pub marks_begin : (ks : List K) (s : Seeds) (a b : K) (n : ℕ) → 2 ≤ length ks → s ≡ seeds_of G ks → a ≡ get_or ks s.first a → b ≡ get_or ks s.second b → length ks ≡ n → marks_from G s.first s.second 0 (begun a b n) ks ≡ quadratic G ks
-  marks_begin [] s a b n l e f g m = absurd (omega arith)
-  marks_begin (k ∷ ks) s a b n l e f g m =
-      let w : Within (length (k ∷ ks)) s = subst (λ t. Within (length (k ∷ ks)) t) (sym e) (seeds_within G (k ∷ ks) l) in
-      let f' = f ∙ get_or_default (k ∷ ks) s.first a k (omega arith) in
-      let g' = g ∙ get_or_default (k ∷ ks) s.second b k (omega arith) in
-      ap (λ x. marks_from G s.first s.second 0 (begun x b n) (k ∷ ks)) f'
-      ∙ ap (λ x. marks_from G s.first s.second 0 (begun (get_or (k ∷ ks) s.first k) x n) (k ∷ ks)) g'
-      ∙ ap (λ x. marks_from G s.first s.second 0 (begun (get_or (k ∷ ks) s.first k) (get_or (k ∷ ks) s.second k) x) (k ∷ ks)) (sym m)
+  at_other : (s : Seeds) (p : ℕ) (g : Groups K) (k : K) → p ≢ s.first → p ≢ s.second → (goes_next G g k ≡ mark G s p g k) × (placed G g k (goes_next G g k) ≡ next G s p g k)
+  at_other s p g k m n = grind (arith, nat_tests)
+
+  begin : {s : Seeds} (ks : List K) (a b : K) → slice_get ks s.first ≡ Some a → slice_get ks s.second ≡ Some b → s ≡ seeds_of G ks
+      → marks_from G s 0 (begun a b (length ks)) ks ≡ quadratic G ks
+  begin {s} [] a b at to e = refl
+  begin {s} (k ∷ ks) a b at to e =
+      ap₂ (λ x y. marks_from G s 0 (begun x y (length (k ∷ ks))) (k ∷ ks)) (sym (get_or_from_slice_get (k ∷ ks) s.first a k at)) (sym (get_or_from_slice_get (k ∷ ks) s.second b k to))
       ∙ ap (λ t. split_at G k t (k ∷ ks)) e
 
-  pub next_first : (i j p : ℕ) (g : Groups K) (k : K) → p ≡ i → next G i j p g k ≡ g
-  next_first i j p g k e = cond-true (eqb p i) _ _ (eq-eqb p i e)
+  module _ (s : Seeds) (ks : List K) (w : (s.first < s.second) × (s.second < length ks)) where
+    marked_on : (p : ℕ) (g g' : Groups K) (marks marks' : List Bool) (k : K) (b : Bool) → Marked s ks p g marks → slice_get ks p ≡ Some k
+        → b ≡ mark G s p g k → g' ≡ next G s p g k
+        → length marks' ≡ length ks → take (p + 1) marks' ≡ take p marks ++ b ∷ [] → ((q : ℕ) → p < q → get_or marks' q false ≡ get_or marks q false) → Marked s ks (p + 1) g' marks'
+    marked_on p g g' marks marks' k b m at e f n t same =
+        let l = slice_get_within ks p k at in
+        record {
+          long = n;
+          fair = subst (Fair s (length ks) (p + 1)) (sym f) (fair_on G s (length ks) w.0 w.1 p g k l m.fair _ _ (turn G s p g k));
+          rest = λ q h o. same q (omega arith) ∙ m.rest q (omega arith) o;
+          so_far = rw (t, append_assoc, e, f) (ap (λ l. take p marks ++ marks_from G s p g l) (sym (drop_at ks p k at)) ∙ m.so_far);
+        }
 
-  pub next_second : (i j p : ℕ) (g : Groups K) (k : K) → (p ≡ i → ⊥) → p ≡ j → next G i j p g k ≡ g
-  next_second i j p g k n e = cond-false (eqb p i) _ _ (ne_eqb p i n) ∙ cond-true (eqb p j) _ _ (eq-eqb p j e)
+    pub marked_seed : (p : ℕ) (g : Groups K) (marks : List Bool) → p < length ks → (p ≡ s.first) ⊎ (p ≡ s.second) → Marked s ks p g marks → Marked s ks (p + 1) g marks
+    marked_seed p g marks l h m =
+        let k = get_or ks p g.stay.union in
+        let long = m.long in
+        let e = at_seed s p g k w.0 h in
+        marked_on p g g marks marks k (p == s.second) m (slice_get-get_or ks p g.stay.union l) e.0 e.1 long
+        (take_more marks p false (omega arith) ∙ ap (λ b. take p marks ++ b ∷ []) (m.rest p (omega arith) (omega arith))) (λ q h. refl)
 
-  pub next_other : (i j p : ℕ) (g : Groups K) (k : K) → (p ≡ i → ⊥) → (p ≡ j → ⊥) → next G i j p g k ≡ placed G g k (mark G i j p g k)
-  next_other i j p g k n m =
-      let e = ne_eqb p i n in
-      let f = ne_eqb p j m in
-      cond-false (eqb p i) _ _ e ∙ cond-false (eqb p j) _ _ f ∙ ap (placed G g k) (sym (cond-false (eqb p i) _ _ e ∙ cond-false (eqb p j) _ _ f))
+    pub marked_other : (p : ℕ) (g g' : Groups K) (marks : List Bool) (k : K) (b : Bool) → slice_get ks p ≡ Some k → p ≢ s.first → p ≢ s.second
+        → b ≡ goes_next G g k → g' ≡ placed G g k b → Marked s ks p g marks → Marked s ks (p + 1) g' (set marks p b)
+    marked_other p g g' marks k b at n o e f m =
+        let l = slice_get_within ks p k at in
+        let long = m.long in
+        let t = at_other s p g k n o in
+        marked_on p g g' marks (set marks p b) k b m at (e ∙ t.0) (f ∙ ap (placed G g k) e ∙ t.1) (length-set marks p b ∙ long)
+        (take_more_set marks p b (omega arith)) (λ q h. let d : q ≢ p = omega arith in get_or-set_other marks p q b false d)
 
-  abbrev pub size : Groups K → ℕ
-  size g = g.stays + g.goes + g.left
+    pub marked_begin : (a b : K) → length ks ≤ 15 → slice_get ks s.first ≡ Some a → slice_get ks s.second ≡ Some b → s ≡ seeds_of G ks
+        → Marked s ks 0 (begun a b (length ks)) (take (length ks) (set (replicate 15 false) s.second true))
+    marked_begin a b m at to e = record {
+      long = length-take-le (length ks) (set (replicate 15 false) s.second true) (omega (arith, length-set (replicate 15 false) s.second true));
+      fair = fair_begun G s (length ks) w.0 w.1 a b;
+      rest = λ q h l. one_true (length ks) s.second q m w.1 l;
+      so_far = begin ks a b at to e;
+    }
 
-  next_size : (g : Groups K) (k : K) (x y b : Bool) → size (cond x g (cond y g (placed G g k b))) ≤ size g + 1
-  next_size g k true y b = omega arith
-  next_size g k false true b = omega arith
-  next_size g k false false true = omega arith
-  next_size g k false false false = omega arith
+    pub marked_end : (p : ℕ) (g : Groups K) (marks more : List Bool) → length ks ≤ p → p ≤ length ks → Marked s ks p g marks → take (length ks) (marks ++ more) ≡ quadratic G ks
+    marked_end p g marks more l h m =
+        let long = m.long in
+        take_at marks more (length ks) long ∙ sym (take_all p marks (omega arith)) ∙ sym (append-nil (take p marks))
+        ∙ sym (at_drop_all (λ l. take p marks ++ marks_from G s p g l) ks p l) ∙ m.so_far
 
-  pub size_more : (i j p : ℕ) (g g' : Groups K) (k : K) → g' ≡ next G i j p g k → size g' ≤ size g + 1
-  size_more i j p g g' k e = subst (λ h. size h ≤ size g + 1) (sym e) (next_size g k (eqb p i) (eqb p j) (chosen G g k))
+    -- A key that is no seed has a group to go to.
+    pub some_left : (p : ℕ) (g : Groups K) (marks : List Bool) → p < length ks → p ≢ s.first → p ≢ s.second → Marked s ks p g marks → 0 < g.left
+    some_left p g marks l a b m = let f = m.fair in grind (arith, nat_tests)

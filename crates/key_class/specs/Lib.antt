@@ -3,3 +3,4 @@ pub mod Words
 pub mod Refusals
 pub mod Joined
 pub mod Quadratic
+pub mod Span

@@ -1,6 +1,7 @@
 -- The quadratic split: the two keys that are worst together begin two groups, and the others follow in order.
-use Rattle.std.specs.Prelude.{◌≡◌, ℕ, ◌+◌, ◌-◌, ◌<◌, ◌≤◌, max, Bool, true, false, cond, ◌⊎◌, List, [], ◌∷◌, length, ◌==◌, nat_lt, slice_index_or}
+use Rattle.std.specs.Prelude.{◌≡◌, ℕ, ◌+◌, ◌-◌, ◌<◌, ◌≤◌, max, Bool, true, false, if◌then◌else◌, ◌⊎◌, List, [], ◌∷◌, length, ◌==◌, nat_lt, slice_index_or}
 use Rattle.key_class.specs.Class.{Growing}
+use Rattle.key_class.specs.declared.groups.Group.{Group}
 use Rattle.key_class.specs.declared.groups.Groups.{Groups}
 use Rattle.key_class.specs.declared.groups.Seeds.{Seeds}
 
@@ -10,7 +11,7 @@ larger_growth G a b = max (G.growth a b) (G.growth b a)
 
 -- A later pair is taken only where it is worse.
 abbrev pub worse : Seeds → Seeds → Seeds
-worse old new = cond (nat_lt old.growth new.growth) new old
+worse old new = if nat_lt old.growth new.growth then new else old
 
 -- The key a at place i beside each of the keys from place j on.
 abbrev pub worst_after : {K : Type 0} → Growing K → K → ℕ → ℕ → List K → Seeds → Seeds
@@ -28,39 +29,46 @@ first_pair = record { first = 0; second = 1; growth = 0 }
 abbrev pub seeds_of : {K : Type 0} → Growing K → List K → Seeds
 seeds_of G ks = worst_from G 0 ks first_pair
 
--- Whether the next key goes. Where a group needs all that are left to have four, it gets them; else the key goes to the
--- group that grows less, on a tie to the smaller one, and then to the one that stays.
-abbrev pub goes_next : (stays goes left grows_stay grows_go : ℕ) → Bool
-goes_next stays goes left grows_stay grows_go =
-    cond (stays + left == 4) false
-    (cond (goes + left == 4) true
-    (cond (nat_lt grows_stay grows_go) false
-    (cond (nat_lt grows_go grows_stay) true (nat_lt goes stays))))
-
-abbrev pub chosen : {K : Type 0} → Growing K → Groups K → K → Bool
-chosen G g k = goes_next g.stays g.goes g.left (G.growth g.stay k) (G.growth g.go k)
-
-abbrev pub placed : {K : Type 0} → Growing K → Groups K → K → Bool → Groups K
-placed G g k true = record { stay = g.stay; stays = g.stays; go = G.union g.go k; goes = g.goes + 1; left = g.left - 1 }
-placed G g k false = record { stay = G.union g.stay k; stays = g.stays + 1; go = g.go; goes = g.goes; left = g.left - 1 }
-
--- The key k at place p, with the seeds at i and j: whether it goes, and the groups then.
-abbrev pub mark : {K : Type 0} → Growing K → ℕ → ℕ → ℕ → Groups K → K → Bool
-mark G i j p g k = cond (p == i) false (cond (p == j) true (chosen G g k))
-
-abbrev pub next : {K : Type 0} → Growing K → ℕ → ℕ → ℕ → Groups K → K → Groups K
-next G i j p g k = cond (p == i) g (cond (p == j) g (placed G g k (chosen G g k)))
-
-abbrev pub marks_from : {K : Type 0} → Growing K → ℕ → ℕ → ℕ → Groups K → List K → List Bool
-marks_from G i j p g [] = []
-marks_from G i j p g (k ∷ ks) = mark G i j p g k ∷ marks_from G i j (p + 1) (next G i j p g k) ks
+-- How many keys are in the groups, and in neither yet.
+abbrev pub size : {K : Type 0} → Groups K → ℕ
+size g = g.stay.count + g.go.count + g.left
 
 -- The groups of n keys with one seed each.
 abbrev pub begun : {K : Type 0} → K → K → ℕ → Groups K
-begun a b n = record { stay = a; stays = 1; go = b; goes = 1; left = n - 2 }
+begun a b n = record { stay = record { union = a; count = 1 }; go = record { union = b; count = 1 }; left = n - 2 }
+
+-- The group with the key k too.
+abbrev pub one_more : {K : Type 0} → Growing K → Group K → K → Group K
+one_more G g k = record { union = G.union g.union k; count = g.count + 1 }
+
+-- Whether the next key k goes. Where a group needs all that are left to have four, it gets them; else the key goes to
+-- the group that grows less, on a tie to the smaller one, and then to the one that stays.
+abbrev pub goes_next : {K : Type 0} → Growing K → Groups K → K → Bool
+goes_next G g k =
+    let stay_grows = G.growth g.stay.union k in
+    let go_grows = G.growth g.go.union k in
+    if g.stay.count + g.left == 4 then false
+    else if g.go.count + g.left == 4 then true
+    else if go_grows == stay_grows then nat_lt g.go.count g.stay.count
+    else nat_lt go_grows stay_grows
+
+abbrev pub placed : {K : Type 0} → Growing K → Groups K → K → Bool → Groups K
+placed G g k true = record { stay = g.stay; go = one_more G g.go k; left = g.left - 1 }
+placed G g k false = record { stay = one_more G g.stay k; go = g.go; left = g.left - 1 }
+
+-- The key k at place p, with the seeds s: whether it goes, and the groups then.
+abbrev pub mark : {K : Type 0} → Growing K → Seeds → ℕ → Groups K → K → Bool
+mark G s p g k = if p == s.first then false else if p == s.second then true else goes_next G g k
+
+abbrev pub next : {K : Type 0} → Growing K → Seeds → ℕ → Groups K → K → Groups K
+next G s p g k = if p == s.first then g else if p == s.second then g else placed G g k (goes_next G g k)
+
+abbrev pub marks_from : {K : Type 0} → Growing K → Seeds → ℕ → Groups K → List K → List Bool
+marks_from G s p g [] = []
+marks_from G s p g (k ∷ ks) = mark G s p g k ∷ marks_from G s (p + 1) (next G s p g k) ks
 
 abbrev pub split_at : {K : Type 0} → Growing K → K → Seeds → List K → List Bool
-split_at G d s ks = marks_from G s.first s.second 0 (begun (slice_index_or ks s.first d) (slice_index_or ks s.second d) (length ks)) ks
+split_at G d s ks = marks_from G s 0 (begun (slice_index_or ks s.first d) (slice_index_or ks s.second d) (length ks)) ks
 
 abbrev pub quadratic : {K : Type 0} → Growing K → List K → List Bool
 quadratic G [] = []

@@ -1,6 +1,6 @@
 -- Four words, and the keys that lists of them stand for.
-use Rattle.std.specs.Prelude.{◌≡◌, ℕ, true, List, [], ◌∷◌, is_some, Some, None, Option, slice_index}
-use Rattle.std.specs.List.{AllByRecursion}
+use Rattle.std.specs.Prelude.{◌≡◌, ℕ, true, List, [], ◌∷◌, is_some, None, Option, slice_index}
+use Rattle.std.specs.List.{AllByRecursion, filter_map}
 use Rattle.key_class.specs.Class.{Growing}
 
 -- What four words give; any other number of words gives nothing.
@@ -19,11 +19,6 @@ of_four f ws = f (slice_index ws 0) (slice_index ws 1) (slice_index ws 2) (slice
 abbrev pub AllKeys : {K : Type 0} → Growing K → List (List ℕ) → Type 0
 AllKeys G ws = AllByRecursion (λ w. is_some (G.unsqueeze w) ≡ true) ws
 
-abbrev pub with_key : {K : Type 0} → Option K → List K → List K
-with_key None ks = ks
-with_key (Some k) ks = k ∷ ks
-
 -- The keys of the words; words of no key are passed over.
 abbrev pub keys_of : {K : Type 0} → Growing K → List (List ℕ) → List K
-keys_of G [] = []
-keys_of G (w ∷ ws) = with_key (G.unsqueeze w) (keys_of G ws)
+keys_of G ws = filter_map G.unsqueeze ws

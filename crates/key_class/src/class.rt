@@ -42,7 +42,8 @@ pub trait KeyClass: Key {
     fn may_hold(&self, query: &Self::Query) -> bool
         ensures { result ≡ class.may_hold self.now query.now };
 
-    /// Of 13 to 15 squeezed keys, in order: which go to a new page.
+    /// Of 13 to 15 squeezed keys, in order: which go to a new page. As many of the marks count as there are keys; an array,
+    /// so that whoever answers or is answered needs no type but the language's own.
     fn pick_split(words: &[[u32; 4]]) -> [bool; 15]
         ensures { Picks class.growing class.split words.now result };
 

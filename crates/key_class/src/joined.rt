@@ -8,12 +8,10 @@ use crate::class::Key;
 pub fn union_of<K: Key>(words: &[[u32; 4]]) -> Option<K>
     ensures { (ks : List K) → Squeezed K.growing ks words.now → result ≡ joined K.growing ks }
 {
-    if words.len() == 0 {
-        return None;
-    }
-    let mut union = K::unsqueeze(&words[0])?;
-    for i in 1..words.len() {
-        let key = K::unsqueeze(&words[i])?;
+    let (first, rest) = words.split_first()?;
+    let mut union = K::unsqueeze(first)?;
+    for word in rest {
+        let key = K::unsqueeze(word)?;
         union = union.union(&key);
     }
     Some(union)

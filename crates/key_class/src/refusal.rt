@@ -1,16 +1,18 @@
 ghost use Rattle.std.specs.Prelude.{◌≡◌, Ok};
 ghost use Rattle.key_class.specs.Refusals.{number_of, if_unused};
 
-use std::fmt;
+use thiserror::Error;
 
 /// Why four words are no key, or no question. A place is that of a word, from 0 to 3.
-#[derive(Clone, Copy, PartialEq, Eq, Debug)]
+#[derive(Clone, Copy, PartialEq, Eq, Debug, Error)]
 pub enum KeyRefusal {
-    /// A low end is above its high end; the place of the first such low end.
+    /// The place is that of the first such low end.
+    #[error("refused {}: the low end in word {} is above its high end", self.number(), .0)]
     LowAboveHigh(usize),
-    /// An unused word is not zero; the place of the first such word.
+    /// The place is that of the first such word.
+    #[error("refused {}: the unused word {} is not zero", self.number(), .0)]
     UnusedNotZero(usize),
-    /// A set has no member.
+    #[error("refused {}: the set has no member", self.number())]
     NoMember,
 }
 
@@ -38,21 +40,4 @@ pub fn check_unused(third: u32, fourth: u32) -> Result<(), KeyRefusal>
         return Err(KeyRefusal::UnusedNotZero(3));
     }
     Ok(())
-}
-
-impl fmt::Display for KeyRefusal {
-    fn fmt<W: fmt::Write>(&self, f: &mut fmt::Formatter<W>) -> fmt::Result {
-        let number = self.number();
-        match self {
-            KeyRefusal::LowAboveHigh(place) => write!(
-                f,
-                "refused {number}: the low end in word {place} is above its high end"
-            ),
-            KeyRefusal::UnusedNotZero(place) => write!(
-                f,
-                "refused {number}: the unused word {place} is not zero"
-            ),
-            KeyRefusal::NoMember => write!(f, "refused {number}: the set has no member"),
-        }
-    }
 }

@@ -1,13 +1,13 @@
 -- Tests of 128 numbers as tests of four words.
-use Rattle.std.specs.Prelude.{◌≡◌, ℕ, zero, suc, ◌+◌, ◌*◌, ◌/◌, ◌%◌, ◌<◌, ◌≤◌, Bool, true, false, cond, ◌&&◌, ◌||◌, refl}
+use Rattle.std.specs.Prelude.{◌≡◌, ℕ, zero, suc, ◌+◌, ◌*◌, ◌/◌, ◌%◌, ◌<◌, ◌≤◌, Bool, true, false, if◌then◌else◌, ◌&&◌, ◌||◌, refl}
 use Rattle.std.proofs.Common.{sym, ap, ap₂, ◌∙◌, add-zero, add-suc, arith}
+use Rattle.std.proofs.Math.Bool.{and-true, or-false}
 use Rattle.std.proofs.Math.Nat.{add_left_comm}
 use Rattle.member_sets.specs.declared.members.Members.{Members}
 use Rattle.member_sets.specs.Members.{bit, word, member, all_below, some_below, count_below}
 
-one_at_most : (b : Bool) → cond b 1 0 ≤ 1
-one_at_most true = omega arith
-one_at_most false = omega arith
+one_at_most : (b : Bool) → (if b then 1 else 0) ≤ 1
+one_at_most b = grind arith
 
 pub count_le : (n : ℕ) (f : ℕ → Bool) → count_below n f ≤ n
 unfolding count_below
@@ -23,35 +23,23 @@ pub record Joins {X : Type 0} (op : X → X → X) (F : ℕ → (ℕ → Bool) �
   pub start : (f : ℕ → Bool) → F 0 f ≡ none
   pub more : (n : ℕ) (f : ℕ → Bool) → F (suc n) f ≡ op (of (f n)) (F n f)
 
-and_keeps : (x : Bool) → (x && true) ≡ x
-and_keeps true = refl
-and_keeps false = refl
-
 and_swaps : (x y t : Bool) → (x && (y && t)) ≡ (y && (x && t))
-and_swaps true y t = refl
-and_swaps false true t = refl
-and_swaps false false t = refl
-
-or_keeps : (x : Bool) → (x || false) ≡ x
-or_keeps true = refl
-or_keeps false = refl
+and_swaps x y t = grind arith
 
 or_swaps : (x y t : Bool) → (x || (y || t)) ≡ (y || (x || t))
-or_swaps false y t = refl
-or_swaps true true t = refl
-or_swaps true false t = refl
+or_swaps x y t = grind arith
 
 pub all_joins : Joins ◌&&◌ all_below
 unfolding all_below
-all_joins = record { none = true; of = λ b. b; keeps = and_keeps; swaps = and_swaps; start = λ f. refl; more = λ n f. refl }
+all_joins = record { none = true; of = λ b. b; keeps = and-true; swaps = and_swaps; start = λ f. refl; more = λ n f. refl }
 
 pub some_joins : Joins ◌||◌ some_below
 unfolding some_below
-some_joins = record { none = false; of = λ b. b; keeps = or_keeps; swaps = or_swaps; start = λ f. refl; more = λ n f. refl }
+some_joins = record { none = false; of = λ b. b; keeps = or-false; swaps = or_swaps; start = λ f. refl; more = λ n f. refl }
 
 pub count_joins : Joins ◌+◌ count_below
 unfolding count_below
-count_joins = record { none = 0; of = λ b. cond b 1 0; keeps = add-zero; swaps = add_left_comm; start = λ f. refl; more = λ n f. refl }
+count_joins = record { none = 0; of = λ b. if b then 1 else 0; keeps = add-zero; swaps = add_left_comm; start = λ f. refl; more = λ n f. refl }
 
 at_word : (s : Members) (j i k : ℕ) → i < 32 → k ≡ j * 32 + i → member s k ≡ bit (word s j) i
 unfolding member

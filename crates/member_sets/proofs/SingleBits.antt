@@ -1,33 +1,29 @@
--- Words by their bits: what `&`, `^`, a test for 0 and the count of ones say of the 32 bits.
-use Rattle.std.proofs.Common.{◌≡◌, ℕ, zero, suc, ◌+◌, ◌/◌, ◌%◌, ◌^◌, ◌<◌, Bool, true, false, cond, not, ◌&&◌, ◌||◌, eqb, sym, refl, ap, ◌∙◌, ap₂, ⊎_elim, pow-suc, div-one, one-add, arith}
-use native.Mathlib.Nat.{zero-div}
-use lib.Bits.{bit_and, bit_xor, and_le_r, xor_lt}
+-- Words by their bits: what `&`, `!`, a test for 0 and the count of ones say of the 32 bits.
+use Rattle.std.proofs.Common.{◌≡◌, ℕ, zero, suc, ◌+◌, ◌/◌, ◌%◌, ◌^◌, ◌<◌, Bool, true, false, if◌then◌else◌, not, ◌&&◌, ◌||◌, eqb, sym, ap, ◌∙◌, ap₂, ⊎_elim, pow-suc, one-add, arith}
+use lib.Bits.{bit_and, and_le_r}
+use Rattle.std.specs.Int.{bit_not, w32}
 use lib.Count.{ones, ones_step, ones-le}
-use Rattle.std.proofs.lemmas.Nat.{shr-shr}
+use Rattle.std.proofs.lemmas.Nat.Bits.{bit_at-lt, bit_at-suc, bit_at-zero, bit_at_lowest, same_from_bits_below}
+use Rattle.std.proofs.Math.Bool.{not-not}
 use Rattle.std.proofs.lemmas.Bool.{cases_Bool, both_ways, and_parts}
 use Rattle.std.proofs.lemmas.Bool.Decides.{same_from_decides, Decides-eqb, Decides-like, Decides-not, nat_tests}
 use Rattle.member_sets.specs.declared.members.Members.{Members}
 use Rattle.member_sets.specs.Members.{bit, all_below, some_below, count_below, has_member}
-use Rattle.member_sets.specs.BitLaws.{bit-bit_and, bit-bit_xor}
+use Rattle.member_sets.specs.BitLaws.{bit-bit_and, bit-bit_not}
 use Rattle.member_sets.specs.Below.{within_tells, some_tells}
 use Rattle.member_sets.proofs.ByWords.{some_joins, count_joins, same_below, below_add, by_words}
 
 half_bit : (n i : ℕ) → bit n (1 + i) ≡ bit (n / 2) i
-half_bit n i = ap (λ m. eqb (m % 2) 1) (sym (shr-shr n 1 i))
+half_bit n i = rw one-add (ap (λ m. eqb m 1) (bit_at-suc n i))
 
-low_bit : (n : ℕ) → cond (bit n 0) 1 0 ≡ n % 2
-low_bit n = ap (λ m. cond (eqb (m % 2) 1) 1 0) (div-one n) ∙ grind (arith, nat_tests)
+low_bit : (n : ℕ) → (if bit n 0 then 1 else 0) ≡ n % 2
+low_bit n = let e = bit_at_lowest n in grind (arith, nat_tests)
 
 same_bits : (w a b : ℕ) → a < 2 ^ w → b < 2 ^ w → ((i : ℕ) → i < w → bit a i ≡ bit b i) → a ≡ b
-same_bits zero a b h l each = omega arith
-same_bits (suc w) a b h l each =
-    let p = pow-suc 2 w in
-    let ih = same_bits w (a / 2) (b / 2) (omega arith) (omega arith) (λ i m. sym (half_bit a i) ∙ each (1 + i) (omega arith) ∙ half_bit b i) in
-    let low = sym (low_bit a) ∙ ap (λ x. cond x 1 0) (each 0 (omega arith)) ∙ low_bit b in
-    omega arith
+same_bits w a b h l each = same_from_bits_below w a b h l (λ i m. let e = each i m in let c = bit_at-lt a i in let d = bit_at-lt b i in grind (arith, nat_tests))
 
 no_bit : (i : ℕ) → bit 0 i ≡ false
-no_bit i = ap (λ m. eqb (m % 2) 1) (zero-div (2 ^ i))
+no_bit i = ap (λ m. eqb m 1) (bit_at-zero i)
 
 ones_bits : (w n : ℕ) → n < 2 ^ w → ones n ≡ count_below w (bit n)
 unfolding count_below
@@ -42,9 +38,7 @@ ones_bits (suc w) n h =
     omega arith
 
 absorbs : (x y : Bool) → (y ≡ true → x ≡ true) → (x && y) ≡ y
-absorbs true y h = refl
-absorbs false true h = h refl
-absorbs false false h = refl
+absorbs x y h = grind arith
 
 pub in_is : (a b : ℕ) → b < 2 ^ 32 → eqb (bit_and a b) b ≡ all_below 32 (λ i. not (bit b i) || bit a i)
 in_is a b h =
@@ -62,34 +56,21 @@ zero_is n h =
     (λ e p. both_ways (bit n p.0) (ap (λ m. bit m p.0) e ∙ no_bit p.0) p.2)
     (Decides-not (some_below 32 (bit n)) (some_tells 32 (bit n))))
 
-not_not : (x : Bool) → not (not x) ≡ x
-not_not true = refl
-not_not false = refl
-
 pub meet_is : (a b : ℕ) → b < 2 ^ 32 → not (eqb (bit_and a b) 0) ≡ some_below 32 (λ i. bit a i && bit b i)
 meet_is a b h =
     let l = and_le_r a b in
-    ap not (zero_is (bit_and a b) (omega arith)) ∙ not_not (some_below 32 (bit (bit_and a b)))
+    ap not (zero_is (bit_and a b) (omega arith)) ∙ not-not (some_below 32 (bit (bit_and a b)))
     ∙ same_below some_joins 32 (bit (bit_and a b)) (λ i. bit a i && bit b i) (λ i k. bit-bit_and a b i)
 
-lacks : (x y : Bool) → cond y (not (x && y)) (x && y) ≡ (y && not x)
-lacks true true = refl
-lacks true false = refl
-lacks false true = refl
-lacks false false = refl
-
-pub lacking_is : (a b : ℕ) → b < 2 ^ 32 → ones (bit_xor b (bit_and a b)) ≡ count_below 32 (λ i. bit b i && not (bit a i))
-lacking_is a b h =
-    let l = and_le_r a b in
-    ones_bits 32 (bit_xor b (bit_and a b)) (xor_lt 32 b (bit_and a b) h (omega arith))
-    ∙ same_below count_joins 32 (bit (bit_xor b (bit_and a b))) (λ i. bit b i && not (bit a i))
-    (λ i k. bit-bit_xor b (bit_and a b) i ∙ ap (λ x. cond (bit b i) (not x) x) (bit-bit_and a b i) ∙ lacks (bit a i) (bit b i))
+pub lacking_is : (a b : ℕ) → a < 2 ^ 32 → b < 2 ^ 32 → ones (bit_and b (bit_not w32 a)) ≡ count_below 32 (λ i. bit b i && not (bit a i))
+lacking_is a b h k =
+    let l = and_le_r b (bit_not w32 a) in
+    ones_bits 32 (bit_and b (bit_not w32 a)) (omega arith)
+    ∙ same_below count_joins 32 (bit (bit_and b (bit_not w32 a))) (λ i. bit b i && not (bit a i))
+    (λ i m. bit-bit_and b (bit_not w32 a) i ∙ ap (λ x. bit b i && x) (bit-bit_not a i h m))
 
 none_of : (x y z t : Bool) → (not x && (not y && (not z && not t))) ≡ not (x || (y || (z || t)))
-none_of true y z t = refl
-none_of false true z t = refl
-none_of false false true t = refl
-none_of false false false t = refl
+none_of x y z t = grind arith
 
 pub empty_is : (s : Members) → s.w0 < 2 ^ 32 → s.w1 < 2 ^ 32 → s.w2 < 2 ^ 32 → s.w3 < 2 ^ 32
     → (eqb s.w0 0 && (eqb s.w1 0 && (eqb s.w2 0 && eqb s.w3 0))) ≡ not (has_member s)

@@ -1,5 +1,5 @@
 -- The laws of sets, by their members.
-use Rattle.std.specs.Prelude.{◌≡◌, ℕ, ◌<◌, true, ◌&&◌, Decides}
+use Rattle.std.specs.Prelude.{◌≡◌, ℕ, ◌<◌, true, ◌&&◌, ◌↔◌, IsTrue}
 use Rattle.std.proofs.Common.{sym, ◌∙◌, ⊎_elim}
 use Rattle.std.proofs.lemmas.Bool.{and_parts, and_from, or_left, or_right, or_cases}
 use Rattle.member_sets.specs.declared.members.Members.{Members}
@@ -11,7 +11,7 @@ use Rattle.member_sets.specs.Joining.{either, member_either}
 use Rattle.member_sets.specs.Sets.{covers, matches, may_hold}
 use Rattle.member_sets.specs.Below.{within_tells, some_tells}
 
-pub contains_tells : (a b : Members) → Decides (contains a b) ((k : ℕ) → k < 128 → member b k ≡ true → member a k ≡ true)
+pub contains_tells : (a b : Members) → IsTrue (contains a b) ↔ ((k : ℕ) → k < 128 → member b k ≡ true → member a k ≡ true)
 contains_tells a b = within_tells 128 (member a) (member b)
 
 pub contains_itself : (a : Members) → contains a a ≡ true

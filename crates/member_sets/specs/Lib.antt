@@ -1,7 +1,7 @@
 pub mod Members
 pub mod BitLaws
+pub mod Below
 pub mod Joining
 pub mod Sets
 pub mod Reading
-pub mod Below
 pub mod Covering

@@ -1,10 +1,11 @@
 -- What a set means: which of the numbers 0 to 127 are its members.
-use Rattle.std.specs.Prelude.{ℕ, zero, suc, ◌+◌, ◌/◌, ◌%◌, ◌^◌, Bool, true, false, cond, not, ◌&&◌, ◌||◌, [], ◌∷◌, ◌==◌, slice_index}
+use Rattle.std.specs.Prelude.{ℕ, zero, suc, ◌+◌, ◌/◌, ◌%◌, Bool, true, false, if◌then◌else◌, not, ◌&&◌, ◌||◌, [], ◌∷◌, ◌==◌, slice_index}
+use Rattle.std.specs.Int.{bit_at}
 use Rattle.member_sets.specs.declared.members.Members.{Members}
 
 -- Bit i of n; bit 0 is the lowest.
 abbrev pub bit : ℕ → ℕ → Bool
-bit n i = n / 2 ^ i % 2 == 1
+bit n i = bit_at n i == 1
 
 -- Word j of the four.
 abbrev pub word : Members → ℕ → ℕ
@@ -25,7 +26,7 @@ some_below (suc n) f = f n || some_below n f
 
 unfoldable pub count_below : ℕ → (ℕ → Bool) → ℕ
 count_below zero f = 0
-count_below (suc n) f = cond (f n) 1 0 + count_below n f
+count_below (suc n) f = (if f n then 1 else 0) + count_below n f
 
 abbrev pub has_member : Members → Bool
 has_member a = some_below 128 (member a)

@@ -6,7 +6,7 @@ use mathlib.Core.HLevel.{is_prop→PathP}
 use Rattle.std.specs.Result.{result_ok}
 use Rattle.std.proofs.lemmas.Bool.{both_ways}
 use Rattle.key_class.specs.Class.{Coded}
-use Rattle.key_class.proofs.Coding.{none_some, four_only}
+use Rattle.key_class.proofs.Coding.{four_only}
 use Rattle.member_sets.specs.declared.members.Members.{Members}
 use Rattle.member_sets.specs.declared.key.SetKey.{SetKey}
 use Rattle.member_sets.specs.Members.{has_member}
@@ -28,7 +28,7 @@ read_only a b c d k = go (has_member (members_of a b c d)) refl
   where
     go : (x : Bool) (t : has_member (members_of a b c d) ≡ x) → result_ok (key_if (members_of a b c d) x t) ≡ Some k → squeeze k ≡ a ∷ b ∷ c ∷ d ∷ []
     go true t e = cc
-    go false t e = absurd (none_some e)
+    go false t e = cc
 
 pub set_coded : Coded set_growing
 set_coded = record {

@@ -1,5 +1,5 @@
 -- The class of sets: keys are sets with a member.
-use Rattle.std.specs.Prelude.{◌≡◌, ℕ, Bool, true, false, List, [], ◌∷◌, Ok, Err, Option, Result, refl}
+use Rattle.std.specs.Prelude.{◌≡◌, ℕ, Bool, true, false, List, Ok, Err, Option, Result, refl}
 use Rattle.std.specs.Result.{result_ok}
 use Rattle.key_class.specs.Class.{Growing, Class}
 use Rattle.key_class.specs.Words.{four}
@@ -11,7 +11,7 @@ use Rattle.member_sets.specs.declared.key.SetKey.{SetKey}
 use Rattle.member_sets.specs.declared.key.SetQuery.{SetQuery}
 use Rattle.member_sets.specs.declared.key.SetQuery.TheVariants.{HasAll, SharesMember, LiesWithin}
 use Rattle.member_sets.specs.Members.{has_member, contains, shares, lacking}
-use Rattle.member_sets.specs.Joining.{members_of, either, either_some}
+use Rattle.member_sets.specs.Joining.{members_of, words_of, either, either_some}
 
 abbrev pub covers : SetKey → SetKey → Bool
 covers a b = contains a.members b.members
@@ -23,7 +23,7 @@ abbrev pub growth : SetKey → SetKey → ℕ
 growth a b = lacking a.members b.members
 
 abbrev pub squeeze : SetKey → List ℕ
-squeeze a = a.members.w0 ∷ a.members.w1 ∷ a.members.w2 ∷ a.members.w3 ∷ []
+squeeze a = words_of a.members
 
 -- The key with the members s, or 23 where there are none.
 abbrev pub key_if : (s : Members) (b : Bool) → has_member s ≡ b → Result SetKey KeyRefusal

@@ -12,12 +12,14 @@ use crate::key::{SetKey, SetQuery};
 use crate::members::Members;
 use key_class::{Key, KeyClass, KeyRefusal, quadratic_split};
 
-impl SetKey {
-    /// The set whose four words these are; refused where it has no member.
-    pub fn from_words(words: &[u32; 4]) -> Result<SetKey, KeyRefusal>
-        ensures { result ≡ of_four read_key words.now }
-    {
-        let members = Members::from_words(words);
+/// From the set's four words.
+impl TryFrom<[u32; 4]> for SetKey {
+    type Error = KeyRefusal;
+
+    ghost try_from_gives = { λ words result. result ≡ of_four read_key words };
+
+    fn try_from(words: [u32; 4]) -> Result<SetKey, KeyRefusal> {
+        let members = Members::from(words);
         if members.is_empty() {
             return Err(KeyRefusal::NoMember);
         }
@@ -30,21 +32,21 @@ impl SetQuery {
     pub fn has_all(words: &[u32; 4]) -> SetQuery
         ensures { result ≡ HasAll (of_four members_of words.now) }
     {
-        SetQuery::HasAll(Members::from_words(words))
+        SetQuery::HasAll(Members::from(*words))
     }
 
     /// Which sets share a member with this one?
     pub fn shares_member(words: &[u32; 4]) -> SetQuery
         ensures { result ≡ SharesMember (of_four members_of words.now) }
     {
-        SetQuery::SharesMember(Members::from_words(words))
+        SetQuery::SharesMember(Members::from(*words))
     }
 
     /// Which sets lie within this one?
     pub fn lies_within(words: &[u32; 4]) -> SetQuery
         ensures { result ≡ LiesWithin (of_four members_of words.now) }
     {
-        SetQuery::LiesWithin(Members::from_words(words))
+        SetQuery::LiesWithin(Members::from(*words))
     }
 }
 
@@ -69,16 +71,11 @@ impl Key for SetKey {
     }
 
     fn squeeze(&self) -> [u32; 4] {
-        [
-            self.members.w0,
-            self.members.w1,
-            self.members.w2,
-            self.members.w3,
-        ]
+        self.members.into()
     }
 
     fn unsqueeze(words: &[u32; 4]) -> Option<SetKey> {
-        SetKey::from_words(words).ok()
+        SetKey::try_from(*words).ok()
     }
 }
 

@@ -4,6 +4,7 @@
 mod class;
 mod key;
 mod members;
+mod shown;
 mod words;
 
 pub use key::{SetKey, SetQuery};

@@ -2,7 +2,7 @@
 ghost use Rattle.std.specs.Prelude.{◌≡◌, not, ◌&&◌, ◌||◌};
 ghost use Rattle.key_class.specs.Words.{of_four};
 ghost use Rattle.member_sets.specs.Members.{bit, all_below, some_below, count_below, has_member, contains, shares, lacking};
-ghost use Rattle.member_sets.specs.Joining.{members_of, either};
+ghost use Rattle.member_sets.specs.Joining.{members_of, words_of, either};
 
 use crate::members::Members;
 
@@ -24,18 +24,27 @@ fn bits_meet(a: u32, b: u32) -> bool
 fn bits_lacking(a: u32, b: u32) -> u32
     ensures { result ≡ count_below 32 (λ i. bit b i && not (bit a i)) }
 {
-    (b ^ (a & b)).count_ones()
+    (b & !a).count_ones()
+}
+
+impl From<[u32; 4]> for Members {
+    ghost from_gives = { λ words result. result ≡ of_four members_of words };
+
+    fn from(words: [u32; 4]) -> Members {
+        let [w0, w1, w2, w3] = words;
+        Members { w0, w1, w2, w3 }
+    }
+}
+
+impl From<Members> for [u32; 4] {
+    ghost from_gives = { λ set result. result ≡ words_of set };
+
+    fn from(set: Members) -> [u32; 4] {
+        [set.w0, set.w1, set.w2, set.w3]
+    }
 }
 
 impl Members {
-    /// The set whose four words these are.
-    pub fn from_words(words: &[u32; 4]) -> Members
-        ensures { result ≡ of_four members_of words.now }
-    {
-        let [w0, w1, w2, w3] = *words;
-        Members { w0, w1, w2, w3 }
-    }
-
     /// Whether the set has no member.
     pub fn is_empty(&self) -> bool
         ensures { result ≡ not (has_member self.now) }

@@ -1,5 +1,5 @@
 -- What stays and what goes by marks.
-use Rattle.std.proofs.Common.{◌≡◌, ◌+◌, Bool, true, false, List, [], ◌∷◌, length, refl, arith}
+use Rattle.std.proofs.Common.{◌≡◌, ◌+◌, Bool, true, false, List, [], ◌∷◌, length, take, refl, ap, arith}
 use Rattle.key_class.specs.Class.{staying, going}
 use Rattle.node.specs.Nodes.{stay, go}
 
@@ -10,6 +10,21 @@ stay_nil (m ∷ ms) = refl
 pub go_nil : {A : Type 0} (ms : List Bool) → go {A = A} ms [] ≡ []
 go_nil [] = refl
 go_nil (m ∷ ms) = refl
+
+-- Marks past the last element say nothing.
+pub stay-take : {A : Type 0} (ms : List Bool) (xs : List A) → stay (take (length xs) ms) xs ≡ stay ms xs
+stay-take [] [] = refl
+stay-take (m ∷ ms) [] = refl
+stay-take [] (x ∷ xs) = refl
+stay-take (true ∷ ms) (x ∷ xs) = stay-take ms xs
+stay-take (false ∷ ms) (x ∷ xs) = ap (λ ys. x ∷ ys) (stay-take ms xs)
+
+pub go-take : {A : Type 0} (ms : List Bool) (xs : List A) → go (take (length xs) ms) xs ≡ go ms xs
+go-take [] [] = refl
+go-take (m ∷ ms) [] = refl
+go-take [] (x ∷ xs) = refl
+go-take (true ∷ ms) (x ∷ xs) = ap (λ ys. x ∷ ys) (go-take ms xs)
+go-take (false ∷ ms) (x ∷ xs) = go-take ms xs
 
 pub length_stay : {A : Type 0} (ms : List Bool) (xs : List A) → length ms ≡ length xs → length (stay ms xs) ≡ staying ms
 length_stay [] xs l = omega arith

@@ -1,12 +1,14 @@
 -- Where an entry lies in the words of its node.
-use Rattle.std.proofs.Common.{◌≡◌, ℕ, zero, suc, ◌+◌, ◌-◌, ◌*◌, ◌<◌, ◌≤◌, List, [], ◌∷◌, ◌++◌, length, get_or, take, drop, replicate, Some, sym, refl, ap, ◌∙◌, append_assoc, arith}
+use Rattle.std.proofs.Common.{◌≡◌, ℕ, zero, suc, ◌+◌, ◌-◌, ◌*◌, ◌<◌, ◌≤◌, List, [], ◌∷◌, ◌++◌, map, length, get_or, take, drop, replicate, Some, None, Option, sym, refl, ap, ◌∙◌, append_assoc, arith}
 use Rattle.std.specs.Option.{option_map}
 use Rattle.std.specs.List.{flat_map, slice_get}
-use Rattle.std.proofs.lemmas.Option.{slice_get-get_or}
-use Rattle.std.proofs.lemmas.List.{take-append-drop, take_at, drop_at, get_or-drop, length-take-le}
+use Rattle.std.proofs.lemmas.Option.{slice_get-map}
+use Rattle.std.proofs.lemmas.Grind.{flat_map-append}
+use Rattle.std.proofs.lemmas.List.{take-append-drop, take_at, drop_at, length-take-le}
 use Rattle.key_class.specs.Class.{Growing, Coded}
 use Rattle.node.specs.Nodes.{Entry, entry_words, node_words}
-use Rattle.node.proofs.Rows.{length_entries}
+use Rattle.node.specs.Reading.{rows, entry_in}
+use Rattle.node.proofs.Rows.{length_entries, key_part, link_part, entry_back, rows_of}
 
 -- The element at place i, between those before it and those behind it.
 pub record Here {X : Type 0} (xs : List X) (i : ℕ) : Type 0 where
@@ -28,37 +30,6 @@ here (x ∷ xs) (suc i) l =
       left = r.left ∙ ap (λ n. r.it ∷ drop n (x ∷ xs)) (sym e);
     }
 
-pub it_is : {X : Type 0} (xs : List X) (i : ℕ) → i < length xs → (h : Here xs i) → get_or xs i h.it ≡ h.it
-it_is xs i l h = let e = slice_get-get_or xs i h.it l in let f = h.there in cc
-
--- The four words from place n on.
-abbrev pub four_at : List ℕ → ℕ → List ℕ
-four_at w n = get_or w n 0 ∷ get_or w (n + 1) 0 ∷ get_or w (n + 2) 0 ∷ get_or w (n + 3) 0 ∷ []
-
--- What stands at the five places from n on.
-pub record Five (w : List ℕ) (n : ℕ) (four : List ℕ) (x : ℕ) : Type 0 where
-  pub keyed : four_at w n ≡ four
-  pub linked : get_or w (n + 4) 0 ≡ x
-
-five_at : (w : List ℕ) (n : ℕ) (four rest : List ℕ) (x : ℕ) → length four ≡ 4 → drop n w ≡ four ++ x ∷ rest → Five w n four x
-five_at w n [] rest x f e = absurd (omega arith)
-five_at w n (a ∷ []) rest x f e = absurd (omega arith)
-five_at w n (a ∷ b ∷ []) rest x f e = absurd (omega arith)
-five_at w n (a ∷ b ∷ c ∷ []) rest x f e = absurd (omega arith)
-five_at w n (a ∷ b ∷ c ∷ d ∷ []) rest x f e =
-    let at : (j : ℕ) → get_or w (n + j) 0 ≡ get_or (a ∷ b ∷ c ∷ d ∷ x ∷ rest) j 0 = λ j. sym (get_or-drop n w j 0) ∙ ap (λ (u : List ℕ). get_or u j 0) e in
-    let z : n + 0 ≡ n = omega arith in
-    let e0 : get_or w n 0 ≡ a = ap (λ (m : ℕ). get_or w m 0) (sym z) ∙ at 0 in
-    let e1 : get_or w (n + 1) 0 ≡ b = at 1 in
-    let e2 : get_or w (n + 2) 0 ≡ c = at 2 in
-    let e3 : get_or w (n + 3) 0 ≡ d = at 3 in
-    record { keyed = cc; linked = at 4 }
-five_at w n (a ∷ b ∷ c ∷ d ∷ y ∷ more) rest x f e = absurd (omega arith)
-
-pub joined_append : {X A : Type 0} (f : X → List A) (xs ys : List X) → flat_map f (xs ++ ys) ≡ flat_map f xs ++ flat_map f ys
-joined_append f [] ys = refl
-joined_append f (x ∷ xs) ys = ap (λ l. f x ++ l) (joined_append f xs ys) ∙ sym (append_assoc (f x) (flat_map f xs) (flat_map f ys))
-
 -- The zeros behind n entries.
 abbrev pub zeros : ℕ → List ℕ
 zeros n = replicate (60 - 5 * n) 0
@@ -79,17 +50,16 @@ pub laid_append : {K : Type 0} (G : Growing K) (level n : ℕ) (es fs : List (En
     → laid G level n (es ++ fs) rest ≡ front G level n es ++ (flat_map (entry_words G) fs ++ rest)
 laid_append G level n es fs rest =
     ap (λ l. level ∷ n ∷ 0 ∷ 0 ∷ l)
-    (ap (λ l. l ++ rest) (joined_append (entry_words G) es fs) ∙ append_assoc (flat_map (entry_words G) es) (flat_map (entry_words G) fs) rest)
-
--- The words of an entry, with what follows them.
-pub entry_first : {K : Type 0} (G : Growing K) (e : Entry K ℕ) (es : List (Entry K ℕ)) (rest : List ℕ)
-    → flat_map (entry_words G) (e ∷ es) ++ rest ≡ G.squeeze e.key ++ e.link ∷ (flat_map (entry_words G) es ++ rest)
-entry_first G e es rest =
-    append_assoc (entry_words G e) (flat_map (entry_words G) es) rest
-    ∙ append_assoc (G.squeeze e.key) (e.link ∷ []) (flat_map (entry_words G) es ++ rest)
+    (ap (λ l. l ++ rest) (flat_map-append (entry_words G) es fs) ∙ append_assoc (flat_map (entry_words G) es) (flat_map (entry_words G) fs) rest)
 
 pub count_is : {K : Type 0} (G : Growing K) (level : ℕ) (es : List (Entry K ℕ)) (w : List ℕ) → w ≡ node_words G level es → get_or w 1 0 ≡ length es
 count_is G level es w is = ap (λ (u : List ℕ). get_or u 1 0) (is ∙ node_laid G level es)
+
+-- The entry at place i, whose row is r.
+pub record EntryAt {K : Type 0} (G : Growing K) (es : List (Entry K ℕ)) (i : ℕ) (r : List ℕ) : Type 0 where
+  pub it : Entry K ℕ
+  pub there : slice_get es i ≡ Some it
+  pub rowed : r ≡ entry_words G it
 
 module _ {K : Type 0} {G : Growing K} (C : Coded G) where
   pub length_front : (level n : ℕ) (es : List (Entry K ℕ)) (i : ℕ) → i ≤ length es → length (front G level n (take i es)) ≡ 4 + 5 * i
@@ -115,23 +85,41 @@ module _ {K : Type 0} {G : Growing K} (C : Coded G) where
       ap (drop (4 + 5 * i)) (cut level es w is i)
       ∙ drop_at (front G level (length es) (take i es)) (flat_map (entry_words G) (drop i es) ++ zeros (length es)) (4 + 5 * i) (length_front level (length es) es i l)
 
-  pub entry_at : (level : ℕ) (es : List (Entry K ℕ)) (w : List ℕ) → w ≡ node_words G level es → (i : ℕ) → i < length es
-      → (h : Here es i) → Five w (4 + 5 * i) (G.squeeze h.it.key) h.it.link
-  entry_at level es w is i l h =
-      five_at w (4 + 5 * i) (G.squeeze h.it.key) (flat_map (entry_words G) (drop (i + 1) es) ++ zeros (length es)) h.it.link (C.four_words h.it.key)
-      (words_from level es w is i (omega arith)
-      ∙ ap (λ (l : List (Entry K ℕ)). flat_map (entry_words G) l ++ zeros (length es)) h.left
-      ∙ entry_first G h.it (drop (i + 1) es) (zeros (length es)))
+  pub rows_are : (level : ℕ) (es : List (Entry K ℕ)) (w : List ℕ) → w ≡ node_words G level es → rows w ≡ map (entry_words G) es
+  rows_are level es w is = ap rows is ∙ rows_of C level es
 
-  pub key_at : (level : ℕ) (es : List (Entry K ℕ)) (w : List ℕ) → w ≡ node_words G level es → (i : ℕ) → i < length es
-      → G.unsqueeze (four_at w (4 + 5 * i)) ≡ option_map (λ e. e.key) (slice_get es i)
-  key_at level es w is i l =
-      let h = here es i l in
-      ap G.unsqueeze (entry_at level es w is i l h).keyed ∙ C.round_trip h.it.key ∙ ap (option_map (λ e. e.key)) (sym h.there)
+  row_at : (level : ℕ) (es : List (Entry K ℕ)) (w : List ℕ) → w ≡ node_words G level es → (i : ℕ)
+      → slice_get (rows w) i ≡ option_map (entry_words G) (slice_get es i)
+  row_at level es w is i = ap (λ (rs : List (List ℕ)). slice_get rs i) (rows_are level es w is) ∙ slice_get-map (entry_words G) es i
 
-  pub link_at : (level : ℕ) (es : List (Entry K ℕ)) (w : List ℕ) → w ≡ node_words G level es → (i : ℕ) → i < length es
-      → Some (get_or w (8 + 5 * i) 0) ≡ option_map (λ e. e.link) (slice_get es i)
-  link_at level es w is i l =
-      let h = here es i l in
-      let eight : 8 + 5 * i ≡ 4 + 5 * i + 4 = omega arith in
-      ap Some (ap (λ (n : ℕ). get_or w n 0) eight ∙ (entry_at level es w is i l h).linked) ∙ ap (option_map (λ e. e.link)) (sym h.there)
+  -- Where there is no row, there is no entry.
+  pub none_at : (level : ℕ) (es : List (Entry K ℕ)) (w : List ℕ) → w ≡ node_words G level es → (i : ℕ) → None ≡ slice_get (rows w) i → slice_get es i ≡ None
+  none_at level es w is i h = go (slice_get es i) (h ∙ row_at level es w is i)
+    where
+      go : (o : Option (Entry K ℕ)) → None ≡ option_map (entry_words G) o → o ≡ None
+      go None h = refl
+      go (Some e) h = cc
+
+  pub at_place : (level : ℕ) (es : List (Entry K ℕ)) (w : List ℕ) → w ≡ node_words G level es → (i : ℕ) (r : List ℕ) → Some r ≡ slice_get (rows w) i → EntryAt G es i r
+  at_place level es w is i r h = go (slice_get es i) refl (h ∙ row_at level es w is i)
+    where
+      go : (o : Option (Entry K ℕ)) → slice_get es i ≡ o → Some r ≡ option_map (entry_words G) o → EntryAt G es i r
+      go None e h = cc
+      go (Some x) e h = record { it = x; there = e; rowed = cc }
+
+  -- What the row at a place is read as.
+  pub entry_at : (level : ℕ) (es : List (Entry K ℕ)) (w : List ℕ) → w ≡ node_words G level es → (i : ℕ) (r : List ℕ) → Some r ≡ slice_get (rows w) i
+      → entry_in G r ≡ slice_get es i
+  entry_at level es w is i r h = let t = at_place level es w is i r h in ap (entry_in G) t.rowed ∙ entry_back C t.it ∙ sym t.there
+
+  pub key_at : (level : ℕ) (es : List (Entry K ℕ)) (w : List ℕ) → w ≡ node_words G level es → (i : ℕ) (r : List ℕ) → Some r ≡ slice_get (rows w) i
+      → G.unsqueeze (take 4 r) ≡ option_map (λ e. e.key) (slice_get es i)
+  key_at level es w is i r h =
+      let t = at_place level es w is i r h in
+      ap (λ (u : List ℕ). G.unsqueeze (take 4 u)) t.rowed ∙ ap G.unsqueeze (key_part C t.it) ∙ C.round_trip t.it.key ∙ ap (option_map (λ e. e.key)) (sym t.there)
+
+  pub link_at : (level : ℕ) (es : List (Entry K ℕ)) (w : List ℕ) → w ≡ node_words G level es → (i : ℕ) (r : List ℕ) → Some r ≡ slice_get (rows w) i
+      → Some (get_or r 4 0) ≡ option_map (λ e. e.link) (slice_get es i)
+  link_at level es w is i r h =
+      let t = at_place level es w is i r h in
+      ap (λ (u : List ℕ). Some (get_or u 4 0)) t.rowed ∙ ap Some (link_part C t.it) ∙ ap (option_map (λ e. e.link)) (sym t.there)

@@ -1,13 +1,13 @@
 -- Nodes: a level and entries, and the 64 words that they lie in.
-use Rattle.std.specs.Prelude.{◌≡◌, ℕ, ◌-◌, ◌*◌, ◌≤◌, Bool, true, false, cond, List, [], ◌∷◌, ◌++◌, map, length, replicate, ◌==◌, nat_lt}
+use Rattle.std.specs.Prelude.{◌≡◌, ℕ, ◌-◌, ◌*◌, ◌≤◌, Bool, true, false, if◌then◌else◌, List, [], ◌∷◌, ◌++◌, map, length, replicate, ◌==◌, nat_lt}
 use Rattle.std.specs.List.{flat_map, AllByRecursion}
 pub use Rattle.std.specs.List.{remove as without}
 use Rattle.key_class.specs.Class.{Growing}
+use Rattle.node.specs.declared.entry.Entry as declared
 
 -- A key, and a record number on a leaf or a child's page above.
-pub record Entry (K L : Type 0) : Type 0 where
-  pub key : K
-  pub link : L
+abbrev pub Entry : Type 0 → Type 0 → Type 0
+Entry K L = declared.Entry K L
 
 abbrev pub keys : {K L : Type 0} → List (Entry K L) → List K
 keys es = map (λ e. e.key) es
@@ -21,7 +21,7 @@ node_words G level es = level ∷ length es ∷ 0 ∷ 0 ∷ (flat_map (entry_wor
 
 -- Record numbers, on a leaf, are above 0, and page numbers, above leaves, below 4,096.
 abbrev pub link_fits : ℕ → ℕ → Bool
-link_fits level n = cond (level == 1) (nat_lt 0 n) (nat_lt n 4096)
+link_fits level n = if level == 1 then nat_lt 0 n else nat_lt n 4096
 
 pub record IsNode {K : Type 0} (level : ℕ) (es : List (Entry K ℕ)) : Type 0 where
   pub low : 1 ≤ level

@@ -1,8 +1,9 @@
 -- Which 64 words are a node: the questions, in their order.
-use Rattle.std.specs.Prelude.{ℕ, zero, suc, ◌+◌, ◌*◌, Bool, true, false, ◌&&◌, List, [], ◌∷◌, take, drop, is_some, Some, None, Option, ◌==◌, nat_eq, nat_le, slice_index}
+use Rattle.std.specs.Prelude.{ℕ, ◌+◌, ◌*◌, Bool, true, false, ◌&&◌, List, take, drop, is_some, Some, None, Option, ◌==◌, nat_eq, nat_le, slice_index}
+use Rattle.std.specs.List.{list_all, filter_map}
 use Rattle.std.specs.Option.{option_map}
+use Rattle.std.specs.Simd.{first_chunks}
 use Rattle.key_class.specs.Class.{Growing}
-use Rattle.key_class.specs.Words.{with_key}
 use Rattle.node.specs.Nodes.{Entry, link_fits}
 use Rattle.node.specs.declared.refusal.NodeRefusal.{NodeRefusal}
 use Rattle.node.specs.declared.refusal.NodeRefusal.TheVariants.{BadLevel, BadCount, NotZero, BadKey, BadLink}
@@ -14,15 +15,6 @@ number_of NotZero = 53
 number_of BadKey = 54
 number_of BadLink = 55
 
-abbrev pub every : {A : Type 0} → (A → Bool) → List A → Bool
-every f [] = true
-every f (x ∷ xs) = f x && every f xs
-
--- The first n groups of five words.
-abbrev pub groups : ℕ → List ℕ → List (List ℕ)
-groups zero ws = []
-groups (suc n) ws = take 5 ws ∷ groups n (drop 5 ws)
-
 abbrev pub level_in : List ℕ → ℕ
 level_in w = slice_index w 0
 
@@ -31,7 +23,7 @@ count_in w = slice_index w 1
 
 -- The five words of each entry.
 abbrev pub rows : List ℕ → List (List ℕ)
-rows w = groups (count_in w) (drop 4 w)
+rows w = first_chunks 5 (count_in w) (drop 4 w)
 
 abbrev pub level_fits : List ℕ → Bool
 level_fits w = nat_le 1 (level_in w) && nat_le (level_in w) 7
@@ -40,13 +32,13 @@ abbrev pub count_fits : List ℕ → Bool
 count_fits w = nat_le 1 (count_in w) && nat_le (count_in w) 12
 
 abbrev pub rest_is_zero : List ℕ → Bool
-rest_is_zero w = (slice_index w 2 == 0 && slice_index w 3 == 0) && every (λ x. nat_eq x 0) (drop (4 + 5 * count_in w) w)
+rest_is_zero w = (slice_index w 2 == 0 && slice_index w 3 == 0) && list_all (λ x. nat_eq x 0) (drop (4 + 5 * count_in w) w)
 
 abbrev pub keys_fit : {K : Type 0} → Growing K → List ℕ → Bool
-keys_fit G w = every (λ r. is_some (G.unsqueeze (take 4 r))) (rows w)
+keys_fit G w = list_all (λ r. is_some (G.unsqueeze (take 4 r))) (rows w)
 
 abbrev pub links_fit : List ℕ → Bool
-links_fit w = every (λ r. link_fits (level_in w) (slice_index r 4)) (rows w)
+links_fit w = list_all (λ r. link_fits (level_in w) (slice_index r 4)) (rows w)
 
 abbrev pub unless : Bool → NodeRefusal → Option NodeRefusal → Option NodeRefusal
 unless true e next = next
@@ -56,7 +48,10 @@ unless false e next = Some e
 abbrev pub refusal_of : {K : Type 0} → Growing K → List ℕ → Option NodeRefusal
 refusal_of G w = unless (level_fits w) BadLevel (unless (count_fits w) BadCount (unless (rest_is_zero w) NotZero (unless (keys_fit G w) BadKey (unless (links_fit w) BadLink None))))
 
--- The entries of a node that is read; a group of no key is passed over.
+-- The entry of a row; none where its first four words are no key's.
+abbrev pub entry_in : {K : Type 0} → Growing K → List ℕ → Option (Entry K ℕ)
+entry_in G r = option_map (λ k. record { key = k; link = slice_index r 4 }) (G.unsqueeze (take 4 r))
+
+-- The entries of a node that is read; a row of no key is passed over.
 abbrev pub entries_in : {K : Type 0} → Growing K → List (List ℕ) → List (Entry K ℕ)
-entries_in G [] = []
-entries_in G (r ∷ rs) = with_key (option_map (λ k. record { key = k; link = slice_index r 4 }) (G.unsqueeze (take 4 r))) (entries_in G rs)
+entries_in G rs = filter_map (entry_in G) rs

@@ -1,8 +1,11 @@
 ghost use Rattle.std.specs.Prelude.{◌≡◌};
-ghost use Rattle.node.specs.Reading.{level_in, count_in};
+ghost use Rattle.std.specs.List.{slice_get};
+ghost use Rattle.std.specs.Option.{option_map};
+ghost use Rattle.node.specs.Reading.{level_in, count_in, rows};
 ghost use Rattle.node.specs.InMemory.{words_in};
 
 use crate::memory::Node;
+use crate::row::{Row, rows};
 
 impl Node {
     /// The 64 words of the node's page.
@@ -24,5 +27,19 @@ impl Node {
         ensures { result ≡ count_in (words_in self.now) }
     {
         self.words[1] as usize
+    }
+
+    // The entries, as they stand on the page.
+    pub(crate) fn rows(&self) -> &[Row]
+        ensures { result.now ≡ rows (words_in self.now) }
+    {
+        rows(&self.words)
+    }
+
+    // The words of entry `i`.
+    pub(crate) fn row(&self, i: usize) -> Option<&Row>
+        ensures { option_map (λ r. r.now) result ≡ slice_get (rows (words_in self.now)) i }
+    {
+        self.rows().get(i)
     }
 }

@@ -2,11 +2,14 @@
 #![tactic(auto)]
 
 mod edit;
+mod entry;
 mod header;
 mod memory;
 mod pool;
 mod reading;
 mod refusal;
+mod row;
 
+pub use entry::Entry;
 pub use memory::{Node, Pool};
 pub use refusal::NodeRefusal;

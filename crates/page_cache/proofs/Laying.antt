@@ -1,11 +1,10 @@
 -- Laws of pages laid over others.
-use Rattle.std.specs.Prelude.{◌≡◌, ℕ, suc, ◌<◌, true, [], ◌∷◌, length, is_some, Some, None, Option, ◌≢◌, slice_set, refl}
-use Rattle.std.proofs.Common.{sym, ap, ◌∙◌, ⊎_elim, arith}
-use Rattle.std.proofs.lemmas.List.{get_or-set_same, get_or-set_other, length-set, ext_get_or}
-use Rattle.std.proofs.lemmas.Bool.{cases_eq}
+use Rattle.std.specs.Prelude.{◌≡◌, ℕ, zero, suc, true, [], ◌∷◌, length, is_some, Some, None, Option, ◌≢◌, slice_set, refl}
+use Rattle.std.proofs.Common.{sym, ap, ◌∙◌, arith}
+use Rattle.std.proofs.lemmas.List.{ext_get_or}
 use Rattle.page_store.specs.Pages.{Pages, Words, at, one_if_free, free_pages}
 use Rattle.page_cache.specs.Over.{lay, over}
-use Rattle.page_cache.specs.Laws.{at_over}
+use Rattle.page_cache.specs.Laws.{length_over, at_over}
 
 lay_one : (x y : Option Words) → one_if_free (lay x y) ≡ one_if_free x
 lay_one None y = refl
@@ -25,7 +24,7 @@ lay_some (Some w) (Some v) = refl
 pub held_over : (s : Pages) (f : ℕ → Option Words) (p : ℕ) → is_some (at (over s f) p) ≡ is_some (at s p)
 held_over s f p = ap is_some (at_over s f p) ∙ lay_some (at s p) (f p)
 
-lay_none : (x : Option Words) → lay x None ≡ x
+pub lay_none : (x : Option Words) → lay x None ≡ x
 lay_none None = refl
 lay_none (Some w) = refl
 
@@ -39,17 +38,32 @@ over_none s f p e = at_over s f p ∙ ap (lay (at s p)) e ∙ lay_none (at s p)
 pub over_kept : (s : Pages) (f : ℕ → Option Words) (p : ℕ) (w : Words) → is_some (at s p) ≡ true → f p ≡ Some w → at (over s f) p ≡ Some w
 over_kept s f p w h e = at_over s f p ∙ ap (lay (at s p)) e ∙ lay_kept (at s p) w h
 
--- Where neither the page below nor what is laid over it changes.
-pub over_at : (s t : Pages) (f g : ℕ → Option Words) (p : ℕ) → at t p ≡ at s p → g p ≡ f p → at (over t g) p ≡ at (over s f) p
-over_at s t f g p e h = at_over t g p ∙ ap (λ (x : Option Words). lay x (g p)) e ∙ ap (lay (at s p)) h ∙ sym (at_over s f p)
+-- Pages that are the same at each number.
+pub same_over : (s t : Pages) (f : ℕ → Option Words) → length t ≡ length s → ((q : ℕ) → lay (at s q) (f q) ≡ at t q) → over s f ≡ t
+same_over s t f l e = ext_get_or None (over s f) t (length_over s f ∙ sym l) (λ q _. at_over s f q ∙ e q)
 
--- Pages that agree at each number, and pages that agree but at p.
-pub same_pages : (s t : Pages) → length t ≡ length s → ((q : ℕ) → at t q ≡ at s q) → t ≡ s
-same_pages s t l h = ext_get_or None t s l (λ q b. h q)
+-- What is laid over is the same, and the same but at p.
+pub over_same : (s : Pages) (f g : ℕ → Option Words) → ((q : ℕ) → g q ≡ f q) → over s g ≡ over s f
+over_same s f g e = same_over s (over s f) g (length_over s f) (λ q. ap (lay (at s q)) (e q) ∙ sym (at_over s f q))
 
-pub set_pages : (s t : Pages) (p : ℕ) (x : Option Words) → length t ≡ length s → p < length s → at t p ≡ x → ((q : ℕ) → (q ≢ p) → at t q ≡ at s q) → t ≡ slice_set s p x
-set_pages s t p x l b here there =
-    same_pages (slice_set s p x) t (l ∙ sym (length-set s p x)) (λ q. ⊎_elim
-    (λ (e : q ≡ p). ap (at t) e ∙ here ∙ sym (ap (at (slice_set s p x)) e ∙ get_or-set_same s p x None b))
-    (λ (ne : q ≡ p → ⊥). there q ne ∙ sym (get_or-set_other s p q x None ne))
-    (cases_eq q p))
+pub over_but : (s : Pages) (f g : ℕ → Option Words) (p : ℕ) → ((q : ℕ) → (q ≢ p) → g q ≡ f q) → over s g ≡ slice_set (over s f) p (at (over s g) p)
+unfolding over
+over_but [] f g p e = refl
+over_but (x ∷ s) f g zero e = let t = over_same s (λ q. f (suc q)) (λ q. g (suc q)) (λ q. e (suc q) (λ h. omega arith)) in cc
+over_but (x ∷ s) f g (suc p) e =
+    let h = e 0 (λ z. omega arith) in
+    let t = over_but s (λ q. f (suc q)) (λ q. g (suc q)) p (λ q ne. e (suc q) (λ z. ne (omega arith))) in
+    cc
+
+-- A page below becomes x, where nothing is laid over it, and becomes what is laid over it.
+pub over_unkept : (s : Pages) (f : ℕ → Option Words) (p : ℕ) (x : Option Words) → f p ≡ None → over (slice_set s p x) f ≡ slice_set (over s f) p x
+unfolding over
+over_unkept [] f p x e = refl
+over_unkept (y ∷ s) f zero x e = let h = lay_none x in cc
+over_unkept (y ∷ s) f (suc p) x e = let t = over_unkept s (λ q. f (suc q)) p x e in cc
+
+pub over_written : (s : Pages) (f : ℕ → Option Words) (p : ℕ) (w : Words) → is_some (at s p) ≡ true → f p ≡ Some w → over (slice_set s p (Some w)) f ≡ over s f
+unfolding over
+over_written [] f p w h e = refl
+over_written (x ∷ s) f zero w h e = let k = lay_kept x w h in cc
+over_written (x ∷ s) f (suc p) w h e = let t = over_written s (λ q. f (suc q)) p w h e in cc

@@ -1,4 +1,5 @@
-pub mod Firsts
 pub mod Slots
 pub mod Laying
+pub mod Ties
 pub mod Steps
+pub mod Answered

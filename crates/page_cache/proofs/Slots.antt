@@ -1,103 +1,77 @@
 -- What a list of slots keeps, and how that goes with a change of one slot.
-use Rattle.std.specs.Prelude.{◌≡◌, ℕ, zero, suc, ◌<◌, Bool, true, false, cond, ◌&&◌, ◌⊎◌, List, [], ◌∷◌, length, Some, None, Option, ◌==◌, ◌≢◌, slice_set, refl}
-use Rattle.std.proofs.Common.{sym, ap, subst, ◌∙◌, inl, inr, ⊎_elim, arith}
-use Rattle.std.proofs.lemmas.List.{get_or-set_same, get_or-set_other}
-use Rattle.std.proofs.lemmas.Bool.{both_ways, cases_eq, cases_Bool, and_parts, and_from, and_right, eqb-true, eq-eqb, ne_eqb, cond-true, cond-false, false≢true}
-use Rattle.page_store.specs.Pages.{Words}
+use Rattle.std.specs.Prelude.{◌≡◌, ℕ, zero, suc, ◌<◌, ◌≤◌, Bool, true, false, List, [], ◌∷◌, length, Some, None, Option, ◌≢◌, slice_set, refl, position}
+use Rattle.std.proofs.Common.{sym, ap, subst, ◌∙◌, ⊎_elim, arith, get_or}
+use Rattle.std.specs.List.{position_or_len}
+use Rattle.std.proofs.lemmas.Grind.{common_steps}
+use Rattle.std.proofs.lemmas.List.{get_or_past, get_or-set_same, set-get_or}
+use Rattle.std.proofs.lemmas.List.Sums.{fails_before_first}
+use Rattle.std.proofs.lemmas.List.Quantifiers.{position-Some}
+use Rattle.std.proofs.lemmas.Bool.{both_ways, cases_lt, cond-false, false_from_ne_true}
+use Rattle.std.proofs.lemmas.Option.{none-some}
 use Rattle.page_cache.specs.declared.slot.Slot.{Slot}
-use Rattle.page_cache.specs.declared.slot.SlotState.{SlotState}
-use Rattle.page_cache.specs.declared.slot.SlotState.TheVariants.{Empty, Clean, Changed}
-use Rattle.page_cache.specs.Policy.{marked}
-use Rattle.page_cache.specs.Slots.{in_use, is_changed, keeps, blank, slot_at, kept_in, clash, Apart, Whole}
+use Rattle.page_cache.specs.Slots.{Slots, is_changed, keeps, slot_at, words_in, kept_in, Apart}
+use Rattle.page_cache.specs.Policy.{clean}
+use Rattle.page_cache.specs.Laws.{kept_cases}
 
-pub keeps_page : (k : Slot) (p : ℕ) → keeps p k ≡ true → k.page ≡ p
-keeps_page k p h = eqb-true k.page p (and_parts (in_use k.state) (k.page == p) h).1
+pub slot_keeps : (x : Option Slot) (k : Slot) → x ≡ Some k → keeps k.page x ≡ true
+slot_keeps x k e = grind arith
 
-pub keeps_own : (k : Slot) → in_use k.state ≡ true → keeps k.page k ≡ true
-keeps_own k h = and_from (in_use k.state) _ h (eq-eqb k.page k.page refl)
+-- A slot that keeps p keeps no other page, and no other slot keeps p.
+pub keeps_only : (x : Option Slot) (p q : ℕ) → keeps p x ≡ true → (q ≢ p) → keeps q x ≡ false
+keeps_only None p q h ne = refl
+keeps_only (Some k) p q h ne = grind arith
 
--- A slot that keeps p keeps no other page.
-pub keeps_only : (k : Slot) (p q : ℕ) → keeps p k ≡ true → (q ≢ p) → keeps q k ≡ false
-keeps_only k p q h ne = and_right (in_use k.state) (k.page == q) (ne_eqb k.page q (λ e. ne (sym e ∙ keeps_page k p h)))
+pub no_other_keeps : (ks : Slots) (i p : ℕ) → Apart ks → keeps p (slot_at ks i) ≡ true → (j : ℕ) → (j ≢ i) → keeps p (slot_at ks j) ≡ false
+no_other_keeps ks i p apart h j ne = false_from_ne_true _ (λ g. ne (apart j i p g h))
 
-keeps_clash : (k l : Slot) (p : ℕ) → keeps p k ≡ true → keeps p l ≡ true → clash k l ≡ true
-keeps_clash k l p h g =
-    and_from (in_use k.state) (keeps k.page l) (and_parts (in_use k.state) (k.page == p) h).0 (ap (λ (x : ℕ). keeps x l) (keeps_page k p h) ∙ g)
+-- Nothing is kept of p exactly where no slot keeps it.
+pub kept_miss : (ks : Slots) (p : ℕ) → ((i : ℕ) → keeps p (slot_at ks i) ≡ false) → kept_in ks p ≡ None
+kept_miss ks p none = kept_cases (λ o. o ≡ None) ks p (λ _. refl) (λ i k e h. let n = none i in grind arith)
 
--- Of two slots that keep p there is only one.
-pub one_keeps : (ks : List Slot) (i j p : ℕ) → Apart ks → keeps p (slot_at ks i) ≡ true → keeps p (slot_at ks j) ≡ true → i ≡ j
-one_keeps ks i j p apart h g = apart i j (keeps_clash (slot_at ks i) (slot_at ks j) p h g)
+pub unkept : (ks : Slots) (p : ℕ) → kept_in ks p ≡ None → (i : ℕ) → keeps p (slot_at ks i) ≡ false
+unkept ks p = kept_cases (λ o. o ≡ None → (i : ℕ) → keeps p (slot_at ks i) ≡ false) ks p (λ none _. none) (λ _ k _ _ n. absurd (none-some k.words (sym n)))
 
-pub no_other_keeps : (ks : List Slot) (i p : ℕ) → Apart ks → keeps p (slot_at ks i) ≡ true → (j : ℕ) → (j ≢ i) → keeps p (slot_at ks j) ≡ false
-no_other_keeps ks i p apart h j ne = ⊎_elim
-    (λ (g : keeps p (slot_at ks j) ≡ true). absurd (ne (one_keeps ks j i p apart g h)))
-    (λ (g : keeps p (slot_at ks j) ≡ false). g)
-    (cases_Bool (keeps p (slot_at ks j)))
+pub kept_hit : (ks : Slots) (i p : ℕ) → Apart ks → keeps p (slot_at ks i) ≡ true → kept_in ks p ≡ words_in (slot_at ks i)
+kept_hit ks i p apart own = kept_cases (λ o. o ≡ words_in (slot_at ks i)) ks p
+    (λ none. absurd (both_ways _ (none i) own))
+    (λ j k e h. let same : j ≡ i = apart j i p (subst (λ (q : ℕ). keeps q (slot_at ks j) ≡ true) h (slot_keeps (slot_at ks j) k e)) own in ap words_in (sym e ∙ ap (slot_at ks) same))
 
--- Which slot keeps p, if any does.
-pub which : (ks : List Slot) (p : ℕ) → ((i : ℕ) × (keeps p (slot_at ks i) ≡ true)) ⊎ ((i : ℕ) → keeps p (slot_at ks i) ≡ false)
-which [] p = inr (λ i. refl)
-which (k ∷ ks) p = ⊎_elim
-    (λ (h : keeps p k ≡ true). inl (0, h))
-    (λ (h : keeps p k ≡ false). ⊎_elim
-    (λ (g : (i : ℕ) × (keeps p (slot_at ks i) ≡ true)). inl (suc g.0, g.1))
-    (λ (g : (i : ℕ) → keeps p (slot_at ks i) ≡ false). inr (miss_more h g))
-    (which ks p))
-    (cases_Bool (keeps p k))
-  where
-    miss_more : keeps p k ≡ false → ((i : ℕ) → keeps p (slot_at ks i) ≡ false) → (i : ℕ) → keeps p (slot_at (k ∷ ks) i) ≡ false
-    miss_more h g zero = h
-    miss_more h g (suc i) = g i
+-- What a search for the slot that keeps p tells.
+none_passes : {X : Type 0} (f : X → Bool) (xs : List X) (d : X) → f d ≡ false → position f xs ≡ None → (i : ℕ) → f (get_or xs i d) ≡ false
+none_passes f xs d b e i = ⊎_elim
+    (λ (l : i < length xs). fails_before_first f xs i d (let m : length xs ≤ position_or_len f xs = grind arith in omega arith))
+    (λ (g : length xs ≤ i). ap f (get_or_past xs i d g) ∙ b)
+    (cases_lt i (length xs))
 
-pub kept_miss : (ks : List Slot) (p : ℕ) → ((i : ℕ) → keeps p (slot_at ks i) ≡ false) → kept_in ks p ≡ None
-kept_miss [] p h = refl
-kept_miss (k ∷ ks) p h = cond-false (keeps p k) _ _ (h 0) ∙ kept_miss ks p (λ i. h (suc i))
+pub first_none : (ks : Slots) (p : ℕ) → position (keeps p) ks ≡ None → kept_in ks p ≡ None
+first_none ks p e = kept_miss ks p (none_passes (keeps p) ks None refl e)
 
-pub kept_hit : (ks : List Slot) (i p : ℕ) → keeps p (slot_at ks i) ≡ true → ((j : ℕ) → (j ≢ i) → keeps p (slot_at ks j) ≡ false) → kept_in ks p ≡ Some (slot_at ks i).words
-kept_hit [] i p h others = absurd (false≢true h)
-kept_hit (k ∷ ks) zero p h others = cond-true (keeps p k) _ _ h
-kept_hit (k ∷ ks) (suc i) p h others =
-    cond-false (keeps p k) _ _ (others 0 (λ e. omega arith)) ∙ kept_hit ks i p h (λ j ne. others (suc j) (λ e. ne (omega arith)))
+pub first_keeps : (ks : Slots) (p i : ℕ) → position (keeps p) ks ≡ Some i → keeps p (slot_at ks i) ≡ true
+first_keeps ks p i e = (position-Some (keeps p) ks i None e).1
 
--- Slot i is changed, and kept q neither before nor after.
-pub kept_other : (ks : List Slot) (i q : ℕ) (k : Slot) → keeps q (slot_at ks i) ≡ false → keeps q k ≡ false → kept_in (slice_set ks i k) q ≡ kept_in ks q
-kept_other [] i q k h g = refl
-kept_other (l ∷ ks) zero q k h g = cond-false (keeps q k) _ _ g ∙ sym (cond-false (keeps q l) _ _ h)
-kept_other (l ∷ ks) (suc i) q k h g = ap (λ (x : Option Words). cond (keeps q l) (Some l.words) x) (kept_other ks i q k h g)
+-- Slot i is replaced, where neither slot keeps q.
+pub kept_but : (ks : Slots) (i q : ℕ) (x y : Option Slot) → keeps q x ≡ false → keeps q y ≡ false → kept_in (slice_set ks i x) q ≡ kept_in (slice_set ks i y) q
+kept_but [] i q x y h g = refl
+kept_but (z ∷ ks) zero q x y h g = cond-false (keeps q x) _ _ h ∙ sym (cond-false (keeps q y) _ _ g)
+kept_but (z ∷ ks) (suc i) q x y h g = let e = kept_but ks i q x y h g in cc
 
--- A property of each slot, after a change of slot i.
-pub each_set : (P : ℕ → Slot → Type 0) (ks : List Slot) (i : ℕ) (k : Slot) → i < length ks → P i k → ((j : ℕ) → (j ≢ i) → P j (slot_at ks j)) → (j : ℕ) → P j (slot_at (slice_set ks i k) j)
-each_set P ks i k l here there j = ⊎_elim
-    (λ (e : j ≡ i). subst (λ (n : ℕ). P n (slot_at (slice_set ks i k) n)) (sym e) (subst (P i) (sym (get_or-set_same ks i k blank l)) here))
-    (λ (ne : j ≡ i → ⊥). subst (P j) (sym (get_or-set_other ks i j k blank ne)) (there j ne))
-    (cases_eq j i)
+pub kept_other : (ks : Slots) (i q : ℕ) (x : Option Slot) → keeps q x ≡ false → keeps q (slot_at ks i) ≡ false → kept_in (slice_set ks i x) q ≡ kept_in ks q
+kept_other ks i q x h g = kept_but ks i q x (slot_at ks i) h g ∙ ap (λ (l : Slots). kept_in l q) (set-get_or ks i None)
 
--- A slot filled with a page that no other slot keeps.
-pub apart_put : (ks : List Slot) (i : ℕ) (k : Slot) → Apart ks → i < length ks → ((j : ℕ) → (j ≢ i) → keeps k.page (slot_at ks j) ≡ false) → Apart (slice_set ks i k)
-apart_put ks i k apart l none x y =
-    each_set (λ m s. clash s (slot_at (slice_set ks i k) y) ≡ true → m ≡ y) ks i k l
-    (each_set (λ n s. clash k s ≡ true → i ≡ n) ks i k l (λ _. refl)
-    (λ j ne h. absurd (both_ways _ (none j ne) (and_parts (in_use k.state) (keeps k.page (slot_at ks j)) h).1)) y)
-    (λ a na. each_set (λ n s. clash (slot_at ks a) s ≡ true → a ≡ n) ks i k l
-    (λ h. let g = and_parts (in_use (slot_at ks a).state) (keeps (slot_at ks a).page k) h in
-    absurd (both_ways _ (none a na) (and_from (in_use (slot_at ks a).state) _ g.0 (eq-eqb _ _ (sym (keeps_page k (slot_at ks a).page g.1))))))
-    (λ b nb. apart a b) y)
-    x
+-- Slot i, which keeps p, is emptied.
+pub kept_emptied : (ks : Slots) (i p : ℕ) → Apart ks → keeps p (slot_at ks i) ≡ true → kept_in (slice_set ks i None) p ≡ None
+kept_emptied ks i p apart h = kept_miss (slice_set ks i None) p (λ j. grind (arith, common_steps))
 
-pub whole_put : (ks : List Slot) (i : ℕ) (k : Slot) → Whole ks → i < length ks → length k.words ≡ 64 → Whole (slice_set ks i k)
-whole_put ks i k whole l e = each_set (λ j s. j < 4 → length s.words ≡ 64) ks i k l (λ _. e) (λ j ne. whole j)
+-- What slot i keeps is marked as written: it keeps the same, and is not changed.
+pub kept_clean : (ks : Slots) (i q : ℕ) → kept_in (slice_set ks i (clean (slot_at ks i))) q ≡ kept_in ks q
+kept_clean [] i q = refl
+kept_clean (None ∷ ks) zero q = refl
+kept_clean (Some k ∷ ks) zero q = refl
+kept_clean (x ∷ ks) (suc i) q = let e = kept_clean ks i q in cc
 
-pub changed_in_use : (c : SlotState) → is_changed c ≡ true → in_use c ≡ true
-changed_in_use Empty h = h
-changed_in_use Clean h = absurd (false≢true h)
-changed_in_use Changed h = refl
+clean_unchanged : (x : Option Slot) → is_changed (clean x) ≡ false
+clean_unchanged None = refl
+clean_unchanged (Some k) = refl
 
--- Marked clean, a slot in use keeps what it kept.
-pub clean_keeps : (ks : List Slot) (i : ℕ) → i < length ks → in_use (slot_at ks i).state ≡ true → (j p : ℕ) → keeps p (slot_at (slice_set ks i (marked (slot_at ks i) Clean)) j) ≡ keeps p (slot_at ks j)
-clean_keeps ks i l used j p =
-    each_set (λ n s. keeps p s ≡ keeps p (slot_at ks n)) ks i (marked (slot_at ks i) Clean) l
-    (ap (λ (b : Bool). b && (slot_at ks i).page == p) (sym used)) (λ n ne. refl) j
-
--- A slot other than the one in which two lists of slots may differ.
-pub same_slot : (ks ls : List Slot) (i j : ℕ) → ((k : Slot) → slice_set ls i k ≡ slice_set ks i k) → (j ≢ i) → slot_at ls j ≡ slot_at ks j
-same_slot ks ls i j e ne = sym (get_or-set_other ls i j blank blank ne) ∙ ap (λ (x : List Slot). slot_at x j) (e blank) ∙ get_or-set_other ks i j blank blank ne
+pub cleaned : (ks : Slots) (i : ℕ) → i < length ks → is_changed (slot_at (slice_set ks i (clean (slot_at ks i))) i) ≡ false
+cleaned ks i l = ap is_changed (get_or-set_same ks i _ None l) ∙ clean_unchanged (slot_at ks i)

@@ -1,12 +1,11 @@
 -- That pages laid over others are as many, and have 64 words each. The laws of the interface rest on it.
-use Rattle.std.specs.Prelude.{◌≡◌, ℕ, zero, suc, ◌<◌, ◌≤◌, true, false, List, [], ◌∷◌, length, Some, None, Option, refl}
-use Rattle.std.proofs.Common.{sym, ap, subst, ◌∙◌, ⊎_elim, suc-le-suc}
-use Rattle.std.proofs.Math.Nat.{zero-lt-suc}
-use Rattle.std.proofs.lemmas.Bool.{cases_Bool, cond-true, cond-false}
+use Rattle.std.specs.Prelude.{◌≡◌, ℕ, zero, suc, ◌≤◌, false, [], ◌∷◌, length, Some, None, Option, ◌==◌, refl}
+use Rattle.std.proofs.Common.{sym, ap, subst, ◌∙◌}
+use Rattle.std.proofs.lemmas.Bool.{cond_both, eqb-true}
 use Rattle.std.proofs.lemmas.Option.{none-some, same_Some}
 use Rattle.page_store.specs.Pages.{Pages, Words, at}
 use Rattle.page_cache.specs.declared.slot.Slot.{Slot}
-use Rattle.page_cache.specs.Slots.{keeps, slot_at, kept_in, Whole}
+use Rattle.page_cache.specs.Slots.{Slots, slot_at, keeps, kept_in, Whole}
 use Rattle.page_cache.specs.Over.{lay, over}
 
 pub length_over : (s : Pages) (f : ℕ → Option Words) → length (over s f) ≡ length s
@@ -28,17 +27,24 @@ lay_whole None y w below kept e = below e
 lay_whole (Some v) None w below kept e = below e
 lay_whole (Some v) (Some u) w below kept e = kept e
 
-kept_whole : (ks : List Slot) (p : ℕ) (w : Words) → ((i : ℕ) → i < length ks → length (slot_at ks i).words ≡ 64) → kept_in ks p ≡ Some w → length w ≡ 64
-kept_whole [] p w whole e = absurd (none-some w e)
-kept_whole (k ∷ ks) p w whole e = ⊎_elim
-    (λ (h : keeps p k ≡ true). ap length (same_Some w k.words (sym e ∙ cond-true (keeps p k) _ _ h)) ∙ whole 0 (zero-lt-suc (length ks)))
-    (λ (h : keeps p k ≡ false). kept_whole ks p w (λ i l. whole (suc i) (suc-le-suc l)) (sym (cond-false (keeps p k) _ _ h) ∙ e))
-    (cases_Bool (keeps p k))
+keeps_none : (x : Option Slot) (ks : Slots) (p : ℕ) → keeps p x ≡ false → ((i : ℕ) → keeps p (slot_at ks i) ≡ false) → (i : ℕ) → keeps p (slot_at (x ∷ ks) i) ≡ false
+keeps_none x ks p h others zero = h
+keeps_none x ks p h others (suc i) = others i
+
+-- What is kept of page p: nothing, where no slot keeps it, and else the words of one that does.
+pub kept_cases : (P : Option Words → Type 0) (ks : Slots) (p : ℕ) → (((i : ℕ) → keeps p (slot_at ks i) ≡ false) → P None)
+    → ((i : ℕ) (k : Slot) → slot_at ks i ≡ Some k → k.page ≡ p → P (Some k.words)) → P (kept_in ks p)
+kept_cases P [] p none some = none (λ i. refl)
+kept_cases P (None ∷ ks) p none some = kept_cases P ks p (λ h. none (keeps_none None ks p refl h)) (λ i. some (suc i))
+kept_cases P (Some k ∷ ks) p none some =
+    cond_both (k.page == p) (Some k.words) (kept_in ks p) P
+    (λ h. some 0 k refl (eqb-true k.page p h))
+    (λ h. kept_cases P ks p (λ others. none (keeps_none (Some k) ks p h others)) (λ i. some (suc i)))
 
 -- A page that a cache means has 64 words, where each below has.
-pub whole_over : (s : Pages) (ks : List Slot) (p : ℕ) (w : Words) → length ks ≡ 4 → Whole ks
+pub whole_over : (s : Pages) (ks : Slots) (p : ℕ) (w : Words) → Whole ks
     → ((v : Words) → at s p ≡ Some v → length v ≡ 64) → at (over s (kept_in ks)) p ≡ Some w → length w ≡ 64
-whole_over s ks p w four whole below e =
+whole_over s ks p w whole below e =
     lay_whole (at s p) (kept_in ks p) w (below w)
-    (kept_whole ks p w (λ i l. whole i (subst (λ (n : ℕ). i < n) four l)))
+    (kept_cases (λ o. o ≡ Some w → length w ≡ 64) ks p (λ _ n. absurd (none-some w n)) (λ i k h _ n. subst (λ (v : Words). length v ≡ 64) (same_Some k.words w n) (whole i k h)))
     (sym (at_over s (kept_in ks) p) ∙ e)

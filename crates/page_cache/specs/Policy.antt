@@ -1,43 +1,43 @@
 -- Which slot a call fills, reuses or empties: the table after each call, by the table before it.
-use Rattle.std.specs.Prelude.{ℕ, suc, ◌+◌, ◌%◌, Bool, cond, List, [], ◌∷◌, replicate, is_some, Some, None, Option, slice_set}
-use Rattle.std.specs.Option.{unwrap_or, option_map}
-use Rattle.page_store.specs.Pages.{Words, zeros}
+use Rattle.std.specs.Prelude.{ℕ, ◌+◌, ◌%◌, Bool, true, false, cond, replicate, is_some, is_none, Some, None, Option, slice_set, position}
+use Rattle.std.specs.Option.{unwrap_or}
+use Rattle.page_store.specs.Pages.{Words}
 use Rattle.page_cache.specs.declared.slot.Slot.{Slot}
-use Rattle.page_cache.specs.declared.slot.SlotState.{SlotState}
-use Rattle.page_cache.specs.declared.slot.SlotState.TheVariants.{Empty, Clean, Changed}
-use Rattle.page_cache.specs.Slots.{is_empty, keeps, slot_at}
+use Rattle.page_cache.specs.Slots.{Slots, keeps, kept_in}
 
 -- The slots, and the one whose turn it is to be reused.
 pub record Places : Type 0 where
-  pub slots : List Slot
+  pub slots : Slots
   pub turn : ℕ
 
--- The lowest slot that passes a test.
-abbrev pub first : (Slot → Bool) → List Slot → Option ℕ
-first f [] = None
-first f (k ∷ ks) = cond (f k) (Some 0) (option_map suc (first f ks))
-
 abbrev pub slot_of : Places → ℕ → Option ℕ
-slot_of t p = first (keeps p) t.slots
+slot_of t p = position (keeps p) t.slots
 
+-- The lowest empty slot.
 abbrev pub empty_slot : Places → Option ℕ
-empty_slot t = first (λ (k : Slot). is_empty k.state) t.slots
+empty_slot t = position is_none t.slots
+
+abbrev pub replaced : Places → ℕ → Option Slot → Places
+replaced t i x = record { slots = slice_set t.slots i x; turn = t.turn }
 
 -- A page that comes in goes to the lowest empty slot; where none is empty, they are reused in turn.
+abbrev pub next_slot : Places → ℕ
+next_slot t = unwrap_or (empty_slot t) t.turn
+
+-- The turn moves on only when a slot in use is reused.
+abbrev pub turned : Places → Places
+turned t = record { slots = t.slots; turn = cond (is_some (empty_slot t)) t.turn ((t.turn + 1) % 4) }
+
 abbrev pub filled : Places → Slot → Places
-filled t k = record {
-  slots = slice_set t.slots (unwrap_or (empty_slot t) t.turn) k;
-  turn = cond (is_some (empty_slot t)) t.turn ((t.turn + 1) % 4);
-}
+filled t k = replaced (turned t) (next_slot t) (Some k)
 
-abbrev pub replaced : Places → ℕ → Slot → Places
-replaced t i k = record { slots = slice_set t.slots i k; turn = t.turn }
+abbrev pub slot : ℕ → Bool → Words → Slot
+slot p c w = record { page = p; changed = c; words = w }
 
-abbrev pub slot : ℕ → SlotState → Words → Slot
-slot p c w = record { page = p; state = c; words = w }
-
-abbrev pub marked : Slot → SlotState → Slot
-marked k c = slot k.page c k.words
+-- A slot once its page is written below.
+abbrev pub clean : Option Slot → Option Slot
+clean None = None
+clean (Some k) = Some (slot k.page false k.words)
 
 -- By the slot that keeps the page, or none.
 abbrev pub by_slot : Option ℕ → (ℕ → Places) → Places → Places
@@ -45,14 +45,14 @@ by_slot (Some i) hit miss = hit i
 by_slot None hit miss = miss
 
 abbrev pub after_read : Places → ℕ → Words → Places
-after_read t p w = by_slot (slot_of t p) (λ i. t) (filled t (slot p Clean w))
+after_read t p w = cond (is_some (kept_in t.slots p)) t (filled t (slot p false w))
 
 abbrev pub after_write : Places → ℕ → Words → Places
-after_write t p w = by_slot (slot_of t p) (λ i. replaced t i (slot p Changed w)) (filled t (slot p Changed w))
+after_write t p w = by_slot (slot_of t p) (λ i. replaced t i (Some (slot p true w))) (filled t (slot p true w))
 
 abbrev pub after_give_back : Places → ℕ → Places
-after_give_back t p = by_slot (slot_of t p) (λ i. replaced t i (marked (slot_at t.slots i) Empty)) t
+after_give_back t p = by_slot (slot_of t p) (λ i. replaced t i None) t
 
 -- The table of a cache just made.
 abbrev pub new_table : Places
-new_table = record { slots = replicate 4 (slot 0 Empty zeros); turn = 0 }
+new_table = record { slots = replicate 4 None; turn = 0 }

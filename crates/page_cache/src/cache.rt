@@ -1,3 +1,5 @@
+ghost use Rattle.page_cache.specs.Over.{Tied};
+
 use crate::table::Table;
 use page_store::PageStore;
 
@@ -7,4 +9,5 @@ use page_store::PageStore;
 pub struct Cache<S: PageStore> {
     pub(crate) below: S,
     pub(crate) table: Table,
+    ghost tied: { Tied (S.meaning below) table.slots },
 }

@@ -1,22 +1,21 @@
-ghost use Rattle.std.specs.Prelude.{◌≡◌, ℕ, ◌<◌, true, false, is_ok, if◌then◌else◌, Some, slice_set};
+ghost use Rattle.std.specs.Prelude.{◌≡◌, ℕ, ◌<◌, true, false, None, Some, is_ok, if◌then◌else◌, slice_set};
 ghost use Rattle.page_store.specs.Pages.{zeros};
 ghost use Rattle.page_store.specs.Calls.{Takes, Reads, Writes, GivesBack};
-ghost use Rattle.page_cache.specs.Slots.{in_use, is_changed, keeps, slot_at, kept_in};
-ghost use Rattle.page_cache.specs.Policy.{new_table, slot, filled, after_read, after_write, after_give_back};
+ghost use Rattle.page_cache.specs.Slots.{slot_at, kept_in};
+ghost use Rattle.page_cache.specs.Policy.{new_table, clean, replaced, filled, after_read, after_write, after_give_back};
 ghost use Rattle.page_cache.specs.Over.{Fair};
-ghost use Rattle.page_cache.specs.Cached.{cached, Rule, places_in};
+ghost use Rattle.page_cache.specs.Cached.{cached, places_in};
 ghost use Rattle.page_cache.specs.Laws.{few_over, whole_over};
 
 use crate::cache::Cache;
-use crate::slot::{Slot, SlotState};
+use crate::slot::{Slot, SlotNumber};
 use crate::table::Table;
 use page_store::{PageStore, StoreRefusal};
 
 impl<S: PageStore> Cache<S> {
     /// A cache over `below`, which is out of reach until the cache is ended.
     pub fn new(below: S) -> Cache<S>
-        ensures rule { S.rule below → Rule S.meaning S.rule result }
-        ensures pages { cached S.meaning result ≡ S.meaning below }
+        ensures pages { cached result ≡ S.meaning below }
         ensures table { places_in result ≡ new_table }
     {
         Cache {
@@ -25,42 +24,37 @@ impl<S: PageStore> Cache<S> {
         }
     }
 
-    // Writes slot `i` below if it is changed.
-    fn flush(&mut self, i: usize)
-        requires { i < 4 }
-        ensures keeps { (j p : ℕ) → keeps p (slot_at self.new.table.slots j) ≡ keeps p (slot_at self.old.table.slots j) }
-        ensures others { (k : Slot) → slice_set self.new.table.slots i k ≡ slice_set self.old.table.slots i k }
-        ensures turn { self.new.table.turn ≡ self.old.table.turn }
-        ensures rule { Rule S.meaning S.rule self.old → Rule S.meaning S.rule self.new
-            × (cached S.meaning self.new ≡ cached S.meaning self.old)
-            × (is_changed (slot_at self.new.table.slots i).state ≡ false) }
+    // Writes below what a slot keeps, if it is changed.
+    fn flush(&mut self, number: SlotNumber)
+        ensures pages { cached self.new ≡ cached self.old }
+        ensures table { places_in self.new ≡ replaced (places_in self.old) number.index (clean (slot_at self.old.table.slots number.index)) }
     {
-        if self.table.is_changed(i) {
-            let page = self.table.page(i);
-            if let Ok(()) = self.below.write(page, self.table.words(i)) {
-                self.table.mark(i, SlotState::Clean);
-            }
+        let Some(slot) = self.table.changed(number) else {
+            return;
+        };
+        if self.below.write(slot.page, &slot.words).is_ok() {
+            self.table.mark_clean(number);
         }
     }
 
     // Keeps a page that no slot keeps.
-    fn keep(&mut self, page: u32, state: SlotState, words: &[u32; 64])
-        requires { (in_use state ≡ true) × (((j : ℕ) → keeps page (slot_at self.old.table.slots j) ≡ false)) }
-        ensures table { places_in self.new ≡ filled (places_in self.old) (slot page state words.now) }
-        ensures rule { Rule S.meaning S.rule self.old → Fair (cached S.meaning self.old) page (slot page state words.now)
-            → Rule S.meaning S.rule self.new × (cached S.meaning self.new ≡ slice_set (cached S.meaning self.old) page (Some words.now)) }
+    fn keep(&mut self, slot: Slot)
+        requires unkept { kept_in self.old.table.slots slot.page ≡ None }
+        requires fair { Fair (cached self.old) slot }
+        ensures pages { cached self.new ≡ slice_set (cached self.old) slot.page (Some slot.words) }
+        ensures table { places_in self.new ≡ filled (places_in self.old) slot }
     {
-        let slot = self.table.choose();
-        self.flush(slot);
-        self.table.put(slot, page, state, words);
+        let chosen = self.table.choose();
+        self.flush(chosen);
+        self.table.put(chosen, slot);
     }
 
     /// Writes what is changed below, and hands back the store below.
     pub fn end(mut self) -> S
-        ensures { Rule S.meaning S.rule self → S.rule result × (S.meaning result ≡ cached S.meaning self) }
+        ensures { S.meaning result ≡ cached self }
     {
-        for i in 0..4 {
-            self.flush(i);
+        for number in SlotNumber::ALL {
+            self.flush(number);
         }
         let Cache { below, table: _ } = self;
         below
@@ -68,14 +62,11 @@ impl<S: PageStore> Cache<S> {
 }
 
 impl<S: PageStore> PageStore for Cache<S> {
-    ghost meaning = { cached S.meaning };
+    ghost meaning = { cached };
 
-    ghost rule = { Rule S.meaning S.rule };
+    ghost few = { λ s. few_over (S.meaning s.below) (kept_in s.table.slots) (S.few s.below) };
 
-    ghost few = { λ s h. few_over (S.meaning s.below) (kept_in s.table.slots) (S.few s.below h.0) };
-
-    ghost whole = { λ s p w h e.
-        whole_over (S.meaning s.below) s.table.slots p w s.table.four s.table.whole (λ v f. S.whole s.below p v h.0 f) e };
+    ghost whole = { λ s p w. whole_over (S.meaning s.below) s.table.slots p w s.table.whole (λ v. S.whole s.below p v) };
 
     fn size(&self) -> u32 {
         self.below.size()
@@ -86,47 +77,54 @@ impl<S: PageStore> PageStore for Cache<S> {
     }
 
     fn take(&mut self) -> Result<u32, StoreRefusal>
-        ensures takes { Rule S.meaning S.rule self.old → Rule S.meaning S.rule self.new × Takes (cached S.meaning self.old) (cached S.meaning self.new) zeros result }
+        ensures takes { Takes (cached self.old) (cached self.new) zeros result }
         ensures table { places_in self.new ≡ places_in self.old }
     {
         self.below.take()
     }
 
     fn read(&mut self, page: u32, words: &mut [u32; 64]) -> Result<(), StoreRefusal>
-        ensures reads { Rule S.meaning S.rule self.old → Rule S.meaning S.rule self.new × Reads (cached S.meaning self.old) (cached S.meaning self.new) page words.old words.new result }
+        ensures reads { Reads (cached self.old) (cached self.new) page words.old words.new result }
         ensures table { places_in self.new ≡ (if is_ok result then after_read (places_in self.old) page words.new else places_in self.old) }
     {
-        if let Some(i) = self.table.find(page) {
-            *words = *self.table.words(i);
+        if let Some(kept) = self.table.words(page) {
+            *words = *kept;
             return Ok(());
         }
         self.below.read(page, words)?;
-        self.keep(page, SlotState::Clean, words);
+        self.keep(Slot {
+            page,
+            changed: false,
+            words: *words,
+        });
         Ok(())
     }
 
     fn write(&mut self, page: u32, words: &[u32; 64]) -> Result<(), StoreRefusal>
-        ensures writes { Rule S.meaning S.rule self.old → Rule S.meaning S.rule self.new × Writes (cached S.meaning self.old) (cached S.meaning self.new) page words.now result }
+        ensures writes { Writes (cached self.old) (cached self.new) page words.now result }
         ensures table { places_in self.new ≡ (if is_ok result then after_write (places_in self.old) page words.now else places_in self.old) }
     {
-        if let Some(i) = self.table.find(page) {
-            self.table.put(i, page, SlotState::Changed, words);
+        let slot = Slot {
+            page,
+            changed: true,
+            words: *words,
+        };
+        if let Some(number) = self.table.find(page) {
+            self.table.put(number, slot);
             return Ok(());
         }
         // Only the store below knows whether the page is held.
         self.below.read(page, &mut [0; 64])?;
-        self.keep(page, SlotState::Changed, words);
+        self.keep(slot);
         Ok(())
     }
 
     fn give_back(&mut self, page: u32) -> Result<(), StoreRefusal>
-        ensures gives { Rule S.meaning S.rule self.old → Rule S.meaning S.rule self.new × GivesBack (cached S.meaning self.old) (cached S.meaning self.new) page result }
+        ensures gives { GivesBack (cached self.old) (cached self.new) page result }
         ensures table { places_in self.new ≡ (if is_ok result then after_give_back (places_in self.old) page else places_in self.old) }
     {
         self.below.give_back(page)?;
-        if let Some(i) = self.table.find(page) {
-            self.table.mark(i, SlotState::Empty);
-        }
+        self.table.forget(page);
         Ok(())
     }
 }

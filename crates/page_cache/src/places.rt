@@ -1,128 +1,102 @@
-ghost use Rattle.std.specs.Prelude.{◌≡◌, ℕ, ◌+◌, ◌%◌, ◌<◌, true, false, is_some, if◌then◌else◌, ◌≢◌};
-ghost use Rattle.std.specs.Option.{unwrap_or};
-ghost use Rattle.page_cache.specs.Slots.{keeps, slot_at, in_use, is_empty, is_changed};
-ghost use Rattle.page_cache.specs.Policy.{slot_of, empty_slot, new_table, slot, marked, replaced};
-ghost use Rattle.page_cache.specs.Cached.{places};
+ghost use Rattle.std.specs.Prelude.{◌≡◌, ℕ, ◌+◌, ◌%◌, true, false, Some, None, IfSome, IfNone, ◌≢◌};
+ghost use Rattle.std.specs.Option.{option_copied};
+ghost use Rattle.page_cache.specs.Slots.{keeps, is_changed, slot_at, kept_in};
+ghost use Rattle.page_cache.specs.Policy.{slot_of, empty_slot, next_slot, turned, new_table, clean, replaced, after_give_back};
+ghost use Rattle.page_cache.specs.Cached.{places, index_of};
 
-use crate::slot::{Slot, SlotState};
+use crate::slot::{Slot, SlotNumber};
 use crate::table::Table;
-
-impl SlotState {
-    fn is_empty(self) -> bool
-        ensures { result ≡ is_empty self }
-    {
-        matches!(self, SlotState::Empty)
-    }
-
-    fn is_changed(self) -> bool
-        ensures { result ≡ is_changed self }
-    {
-        matches!(self, SlotState::Changed)
-    }
-}
-
-impl Slot {
-    fn keeps(&self, page: u32) -> bool
-        ensures { result ≡ keeps page self.now }
-    {
-        !self.state.is_empty() && self.page == page
-    }
-}
 
 impl Table {
     pub(crate) fn new() -> Table
         ensures { places result ≡ new_table }
     {
         Table {
-            slots: [Slot {
-                page: 0,
-                state: SlotState::Empty,
-                words: [0; 64],
-            }; 4],
-            turn: 0,
+            slots: [None; 4],
+            turn: SlotNumber { index: 0 },
         }
     }
 
     // The slot that keeps `page`.
-    pub(crate) fn find(&self, page: u32) -> Option<usize>
-        ensures { result ≡ slot_of (places self.now) page }
+    pub(crate) fn find(&self, page: u32) -> Option<SlotNumber>
+        ensures { index_of result ≡ slot_of (places self.now) page }
     {
-        for (i, slot) in self.slots.iter().enumerate() {
-            if slot.keeps(page) {
-                return Some(i);
-            }
-        }
-        None
+        let index = self
+            .slots
+            .iter()
+            .position(|slot| matches!(slot, Some(kept) if kept.page == page))?;
+        Some(SlotNumber { index })
     }
 
     // The lowest empty slot.
-    fn find_empty(&self) -> Option<usize>
-        ensures { result ≡ empty_slot (places self.now) }
+    fn find_empty(&self) -> Option<SlotNumber>
+        ensures { index_of result ≡ empty_slot (places self.now) }
     {
-        for (i, slot) in self.slots.iter().enumerate() {
-            if slot.state.is_empty() {
-                return Some(i);
-            }
-        }
-        None
+        let index = self.slots.iter().position(Option::is_none)?;
+        Some(SlotNumber { index })
     }
 
     // The slot to fill next: the lowest empty one, or the one whose turn it is.
-    pub(crate) fn choose(&mut self) -> usize
-        ensures slot { result ≡ unwrap_or (empty_slot (places self.old)) self.old.turn }
-        ensures within { result < 4 }
-        ensures slots { self.new.slots ≡ self.old.slots }
-        ensures turn { self.new.turn ≡ (if is_some (empty_slot (places self.old)) then self.old.turn else (self.old.turn + 1) % 4) }
+    pub(crate) fn choose(&mut self) -> SlotNumber
+        ensures slot { result.index ≡ next_slot (places self.old) }
+        ensures table { places self.new ≡ turned (places self.old) }
     {
         match self.find_empty() {
-            Some(i) => i,
+            Some(number) => number,
             None => {
-                let i = self.turn;
-                self.turn = (i + 1) % 4;
-                i
+                let number = self.turn;
+                self.turn = number.next();
+                number
             }
         }
     }
 
-    // Whether slot `i` has yet to be written below.
-    pub(crate) fn is_changed(&self, i: usize) -> bool
-        requires { i < 4 }
-        ensures { result ≡ is_changed (slot_at self.now.slots i).state }
+    // The words kept of `page`.
+    pub(crate) fn words(&self, page: u32) -> Option<&[u32; 64]>
+        ensures { option_copied result ≡ kept_in self.now.slots page }
     {
-        self.slots[i].state.is_changed()
+        let number = self.find(page)?;
+        self.slots[number.index].as_ref().map(|slot| &slot.words)
     }
 
-    pub(crate) fn page(&self, i: usize) -> u32
-        requires { i < 4 }
-        ensures { result ≡ (slot_at self.now.slots i).page }
+    // What a slot keeps, if it has yet to be written below.
+    pub(crate) fn changed(&self, number: SlotNumber) -> Option<&Slot>
+        ensures none { IfNone result (is_changed (slot_at self.now.slots number.index) ≡ false) }
+        ensures some { IfSome result (λ k. (slot_at self.now.slots number.index ≡ Some k.now) × (k.now.changed ≡ true)) }
     {
-        self.slots[i].page
+        self.slots[number.index]
+            .as_ref()
+            .filter(|slot| slot.changed)
     }
 
-    pub(crate) fn words(&self, i: usize) -> &[u32; 64]
-        requires { i < 4 }
-        ensures { result.now ≡ (slot_at self.now.slots i).words }
+    // Fills a slot with a page that no other slot keeps.
+    pub(crate) fn put(&mut self, number: SlotNumber, slot: Slot)
+        requires { (j : ℕ) → (j ≢ number.index) → keeps slot.page (slot_at self.old.slots j) ≡ false }
+        ensures { places self.new ≡ replaced (places self.old) number.index (Some slot) }
     {
-        &self.slots[i].words
+        self.slots[number.index] = Some(slot);
     }
 
-    // Fills slot `i` with a page that no other slot keeps.
-    pub(crate) fn put(&mut self, i: usize, page: u32, state: SlotState, words: &[u32; 64])
-        requires { (i < 4) × (((j : ℕ) → (j ≢ i) → keeps page (slot_at self.old.slots j) ≡ false)) }
-        ensures { places self.new ≡ replaced (places self.old) i (slot page state words.now) }
+    // Marks what a slot keeps as written below.
+    pub(crate) fn mark_clean(&mut self, number: SlotNumber)
+        ensures { places self.new ≡ replaced (places self.old) number.index (clean (slot_at self.old.slots number.index)) }
     {
-        self.slots[i] = Slot {
-            page,
-            state,
-            words: *words,
-        };
+        // Copied out and put back: through a `&mut` to the slot the table's invariant leaves a goal that no answer can cite.
+        if let Some(slot) = self.slots[number.index] {
+            let written = Slot {
+                changed: false,
+                ..slot
+            };
+            self.put(number, written);
+        }
     }
 
-    // Marks slot `i` empty, or one in use clean or changed.
-    pub(crate) fn mark(&mut self, i: usize, state: SlotState)
-        requires { (i < 4) × ((in_use state ≡ true → in_use (slot_at self.old.slots i).state ≡ true)) }
-        ensures { places self.new ≡ replaced (places self.old) i (marked (slot_at self.old.slots i) state) }
+    // Empties the slot that keeps `page`, if one does.
+    pub(crate) fn forget(&mut self, page: u32)
+        ensures { places self.new ≡ after_give_back (places self.old) page }
     {
-        self.slots[i].state = state;
+        if let Some(number) = self.find(page) {
+            self.slots[number.index] = None;
+        }
     }
 }

@@ -1,15 +1,15 @@
-ghost use Rattle.std.specs.Prelude.{◌≡◌, ℕ, ◌<◌, length};
+ghost use Rattle.std.specs.Prelude.{◌≡◌, length};
 ghost use Rattle.page_cache.specs.Slots.{Apart, Whole};
 
-use crate::slot::Slot;
+use crate::slot::{Slot, SlotNumber};
 
 /// The pages that a cache keeps, and the slot whose turn it is to be reused.
 #[derive(Drop)]
 pub struct Table {
-    pub(crate) slots: [Slot; 4],
-    pub(crate) turn: usize,
+    // None is an empty slot.
+    pub(crate) slots: [Option<Slot>; 4],
+    pub(crate) turn: SlotNumber,
     ghost four: { length slots ≡ 4 },
     ghost apart: { Apart slots },
     ghost whole: { Whole slots },
-    ghost within: { turn < 4 },
 }

@@ -1,7 +1,7 @@
 -- What a caller knows after each call, by its answer.
-use Rattle.std.proofs.Common.{◌≡◌, ℕ, ◌<◌, ◌≤◌, true, false, ltb, length, set, is_some, Some, None, Ok, Err, Option, unwrap_or, sym, ap, ◌∙◌, ⊎_elim, arith}
+use Rattle.std.proofs.Common.{◌≡◌, ℕ, ◌<◌, ◌≤◌, true, false, ltb, length, set, is_some, is_ok, Some, None, Ok, Err, Option, Result, unwrap_or, sym, ap, ◌∙◌, ⊎_elim, arith}
 use Rattle.std.proofs.lemmas.List.{get_or-set_same, set-set, set-get_or}
-use Rattle.std.proofs.lemmas.Bool.{cond-true, cond-false, cases_Bool, lt-ltb, le-ltb}
+use Rattle.std.proofs.lemmas.Bool.{cond-true, cond-false, cases_Bool, lt-ltb, le-ltb, true≢false, false≢true}
 use Rattle.std.proofs.lemmas.Bool.Decides.{nat_tests}
 use Rattle.page_store.specs.Pages.{Pages, Words, at}
 use Rattle.page_store.specs.Refusals.{answer}
@@ -112,3 +112,28 @@ took_written {s} {t} {u} {v} {w} {p} h k = record {
 pub took_given : {s t u : Pages} {w : Words} {p : ℕ} → Took s t w p → ChangeOk t u p None → u ≡ s
 took_given {s} {t} {u} {w} {p} h k =
     k.pages ∙ ap (λ (x : Pages). set x p None) h.pages ∙ set-set s p (Some w) None ∙ ap (set s p) (sym h.was_free) ∙ set-get_or s p None
+
+-- The same, by whether the answer is Ok.
+pub reads_ok : {s t : Pages} {p : ℕ} {w v : Words} (r : Result Unit StoreRefusal) → true ≡ is_ok r → Reads s t p w v r → ReadOk s t p v
+reads_ok (Ok u) o h = read_ok h
+reads_ok (Err e) o h = absurd (true≢false o)
+
+pub reads_refused : {s t : Pages} {p : ℕ} {w v : Words} (r : Result Unit StoreRefusal) → false ≡ is_ok r → Reads s t p w v r → Refused s t p
+reads_refused (Ok u) o h = absurd (false≢true o)
+reads_refused (Err e) o h = (read_refused h).0
+
+pub writes_ok : {s t : Pages} {p : ℕ} {w : Words} (r : Result Unit StoreRefusal) → true ≡ is_ok r → Writes s t p w r → ChangeOk s t p (Some w)
+writes_ok (Ok u) o h = write_ok h
+writes_ok (Err e) o h = absurd (true≢false o)
+
+pub writes_refused : {s t : Pages} {p : ℕ} {w : Words} (r : Result Unit StoreRefusal) → false ≡ is_ok r → Writes s t p w r → Refused s t p
+writes_refused (Ok u) o h = absurd (false≢true o)
+writes_refused (Err e) o h = write_refused h
+
+pub gives_ok : {s t : Pages} {p : ℕ} (r : Result Unit StoreRefusal) → true ≡ is_ok r → GivesBack s t p r → ChangeOk s t p None
+gives_ok (Ok u) o h = give_ok h
+gives_ok (Err e) o h = absurd (true≢false o)
+
+pub gives_refused : {s t : Pages} {p : ℕ} (r : Result Unit StoreRefusal) → false ≡ is_ok r → GivesBack s t p r → Refused s t p
+gives_refused (Ok u) o h = absurd (false≢true o)
+gives_refused (Err e) o h = give_refused h

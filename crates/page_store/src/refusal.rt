@@ -1,16 +1,16 @@
 ghost use Rattle.std.specs.Prelude.{◌≡◌};
 ghost use Rattle.page_store.specs.Refusals.{number_of};
 
-use std::fmt;
+use thiserror::Error;
 
-/// Why a page store says no.
-#[derive(Clone, Copy, PartialEq, Eq, Debug)]
+/// Why a page store says no. Each layer has refusals of its own, with numbers of their own.
+#[derive(Clone, Copy, PartialEq, Eq, Debug, Error)]
 pub enum StoreRefusal {
-    /// The page number is not below the size.
+    #[error("refused {}: the page number is not below the size", self.number())]
     OutOfRange = 41,
-    /// The page is free.
+    #[error("refused {}: the page is free", self.number())]
     NotHeld = 42,
-    /// No page is free.
+    #[error("refused {}: no page is free", self.number())]
     NoFreePage = 43,
 }
 
@@ -20,17 +20,5 @@ impl StoreRefusal {
         ensures { result ≡ number_of self }
     {
         self as u32
-    }
-}
-
-impl fmt::Display for StoreRefusal {
-    fn fmt<W: fmt::Write>(&self, f: &mut fmt::Formatter<W>) -> fmt::Result {
-        let number = self.number();
-        let reason = match self {
-            StoreRefusal::OutOfRange => "the page number is not below the size",
-            StoreRefusal::NotHeld => "the page is free",
-            StoreRefusal::NoFreePage => "no page is free",
-        };
-        write!(f, "refused {number}: {reason}")
     }
 }

@@ -6,38 +6,36 @@ use crate::refusal::StoreRefusal;
 
 /// Numbered pages of 64 words.
 ///
-/// `meaning` is all that callers know of a store. `rule` is the store's own invariant:
-/// its maker sets it up, each call keeps it, and what a call promises holds under it.
+/// `meaning` is all that callers know of a store. A rule of the store's own belongs into its type, as ghost fields: the
+/// making sets it up, and each call keeps it.
 pub trait PageStore {
     ghost meaning: { Self → Pages };
 
-    ghost rule: { Self → Type 0 };
-
     /// The number of pages.
     fn size(&self) -> u32
-        ensures { rule self.now → result ≡ length (meaning self.now) };
+        ensures { result ≡ length (meaning self.now) };
 
     /// The number of free pages.
     fn free_count(&self) -> u32
-        ensures { rule self.now → result ≡ free_pages (meaning self.now) };
+        ensures { result ≡ free_pages (meaning self.now) };
 
     /// Makes a free page held, all its words zero.
     fn take(&mut self) -> Result<u32, StoreRefusal>
-        ensures { rule self.old → rule self.new × Takes (meaning self.old) (meaning self.new) zeros result };
+        ensures { Takes (meaning self.old) (meaning self.new) zeros result };
 
     /// Fills `words` from a held page. A store may keep what it read, so `self` is lent to it whole.
     fn read(&mut self, page: u32, words: &mut [u32; 64]) -> Result<(), StoreRefusal>
-        ensures { rule self.old → rule self.new × Reads (meaning self.old) (meaning self.new) page words.old words.new result };
+        ensures { Reads (meaning self.old) (meaning self.new) page words.old words.new result };
 
     /// Replaces the words of a held page.
     fn write(&mut self, page: u32, words: &[u32; 64]) -> Result<(), StoreRefusal>
-        ensures { rule self.old → rule self.new × Writes (meaning self.old) (meaning self.new) page words.now result };
+        ensures { Writes (meaning self.old) (meaning self.new) page words.now result };
 
     /// Makes a held page free.
     fn give_back(&mut self, page: u32) -> Result<(), StoreRefusal>
-        ensures { rule self.old → rule self.new × GivesBack (meaning self.old) (meaning self.new) page result };
+        ensures { GivesBack (meaning self.old) (meaning self.new) page result };
 
-    ghost few: { (s : Self) → rule s → length (meaning s) ≤ 4096 };
+    ghost few: { (s : Self) → length (meaning s) ≤ 4096 };
 
-    ghost whole: { (s : Self) (p : ℕ) (w : Words) → rule s → at (meaning s) p ≡ Some w → length w ≡ 64 };
+    ghost whole: { (s : Self) (p : ℕ) (w : Words) → at (meaning s) p ≡ Some w → length w ≡ 64 };
 }

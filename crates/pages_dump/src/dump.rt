@@ -1,38 +1,26 @@
-use crate::shown::Shown;
 use key_class::KeyClass;
-use node::Node;
+use node::{Entry, Node};
+use std::fmt::Display;
+use std::io;
 
-fn dump_entry<K: KeyClass + Shown>(
-    rt: &HostRuntime,
-    node: &Node,
-    place: usize,
-) -> anyhow::Result<()> {
-    if let Some(key) = node.key::<K>(place) {
-        print!(rt; "  {place}: ")?;
-        key.show(rt)?;
-    }
-    if let Some(link) = node.link::<K>(place) {
-        if node.level() == 1 {
-            println!(rt; ", record {link}")?;
-        } else {
-            println!(rt; ", page {link}")?;
+fn dump_node<K: KeyClass + Display>(rt: &impl Print, node: &Node) -> io::Result<()> {
+    let level = node.level();
+    let count = node.count();
+    println!(rt; "level {level}, count {count}")?;
+    let kind = if level == 1 { "record" } else { "page" };
+    // By place, which is printed.
+    for place in 0..count {
+        if let Some(Entry { key, link }) = node.entry::<K>(place) {
+            println!(rt; "  {place}: {key}, {kind} {link}")?;
         }
     }
     Ok(())
 }
 
 /// Prints the node that a page is, or why it is none.
-pub fn dump<K: KeyClass + Shown>(rt: &HostRuntime, page: &[u32; 64]) -> anyhow::Result<()> {
+pub fn dump<K: KeyClass + Display>(rt: &impl Print, page: &[u32; 64]) -> io::Result<()> {
     match Node::read::<K>(page) {
-        Ok(node) => {
-            let level = node.level();
-            let count = node.count();
-            println!(rt; "level {level}, count {count}")?;
-            for place in 0..count {
-                dump_entry::<K>(rt, &node, place)?;
-            }
-        }
-        Err(refusal) => println!(rt; "{refusal}")?,
+        Ok(node) => dump_node::<K>(rt, &node),
+        Err(refusal) => println!(rt; "{refusal}"),
     }
-    Ok(())
 }

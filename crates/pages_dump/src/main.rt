@@ -6,9 +6,8 @@
 
 mod dump;
 mod read;
-mod shown;
 
-use anyhow::anyhow;
+use anyhow::{Context, anyhow};
 use dump::dump;
 use intervals::Interval;
 use member_sets::SetKey;
@@ -16,28 +15,22 @@ use read::read_page;
 use rectangles::Rectangle;
 use std::io::{BufRead, BufReader};
 
-fn dump_line(rt: &HostRuntime, line: &str) -> anyhow::Result<()> {
+fn dump_line(rt: &impl Print, line: &str) -> anyhow::Result<()> {
     let mut parts = line.split(' ');
-    let Some(class) = parts.next() else {
-        return Err(anyhow!("an empty line"));
-    };
+    let class = parts.next().context("an empty line")?;
     let page = read_page(parts)?;
     match class {
-        "interval" => dump::<Interval>(rt, &page),
-        "rectangle" => dump::<Rectangle>(rt, &page),
-        "set" => dump::<SetKey>(rt, &page),
-        _ => Err(anyhow!("no such class")),
-    }
-}
-
-fn run(rt: &HostRuntime) -> anyhow::Result<()> {
-    for line in BufReader::new(rt.alloc(), rt.stdin())?.lines(rt.alloc()) {
-        let line = line?;
-        dump_line(rt, &line)?;
+        "interval" => dump::<Interval>(rt, &page)?,
+        "rectangle" => dump::<Rectangle>(rt, &page)?,
+        "set" => dump::<SetKey>(rt, &page)?,
+        _ => return Err(anyhow!("no such class")),
     }
     Ok(())
 }
 
 fn main(rt: HostRuntime) -> anyhow::Result<()> {
-    run(&rt)
+    for line in BufReader::new(rt.alloc(), rt.stdin())?.lines(rt.alloc()) {
+        dump_line(&rt, &line?)?;
+    }
+    Ok(())
 }

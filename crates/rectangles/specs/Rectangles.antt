@@ -1,5 +1,5 @@
 -- The class of rectangles.
-use Rattle.std.specs.Prelude.{◌≡◌, ℕ, ◌-◌, ◌*◌, ◌^◌, Bool, true, false, cond, ◌&&◌, List, [], ◌∷◌, ℤ, ◌-ℤ◌, None, Ok, Err, Option, Result, int_le, nat_lt, unsigned_abs, refl}
+use Rattle.std.specs.Prelude.{◌≡◌, ℕ, ◌-◌, ◌*◌, ◌^◌, Bool, true, false, if◌then◌else◌, ◌&&◌, List, [], ◌∷◌, ℤ, ◌-ℤ◌, None, Ok, Err, Option, Result, int_le, nat_lt, unsigned_abs, refl}
 use Rattle.std.proofs.Common.{of_z}
 use Rattle.std.specs.Int.{int_min, int_max, w32}
 use Rattle.std.specs.Result.{result_ok}
@@ -85,7 +85,7 @@ abbrev pub words_fit : ℕ → ℕ → ℕ → ℕ → Bool
 words_fit a b c d = (nat_lt a (2 ^ 32) && nat_lt b (2 ^ 32)) && (nat_lt c (2 ^ 32) && nat_lt d (2 ^ 32))
 
 abbrev pub key_of : ℕ → ℕ → ℕ → ℕ → Option Rectangle
-key_of a b c d = cond (words_fit a b c d) (result_ok (read_rectangle a b c d)) None
+key_of a b c d = if words_fit a b c d then result_ok (read_rectangle a b c d) else None
 
 abbrev pub unsqueeze : List ℕ → Option Rectangle
 unsqueeze = four key_of

@@ -1,4 +1,4 @@
-ghost use Rattle.std.specs.Prelude.{◌≡◌, true, Decides, refl};
+ghost use Rattle.std.specs.Prelude.{◌≡◌, ◌↔◌, true, IsTrue, refl};
 ghost use Rattle.std.specs.Result.{result_map_both};
 ghost use Rattle.key_class.specs.Words.{of_four};
 ghost use Rattle.rectangles.specs.Rectangles.{covers, meets, holds_point, union, area, matches, read_rectangle, read_point, rectangle_growing, rectangle_class};
@@ -7,19 +7,21 @@ ghost use Rattle.rectangles.specs.declared.rectangle.RectangleQuery.TheVariants.
 ghost use Rattle.rectangles.specs.Laws.{rectangle_coded, covers_itself, covers_through, union_first, union_second, holds_match, holds_above};
 ghost use Rattle.key_class.proofs.Sharing.{quadratic_shares};
 
-use crate::axis::{contains, overlaps};
 use crate::rectangle::{Rectangle, RectangleQuery};
-use key_class::{Key, KeyClass, KeyRefusal, check_unused, quadratic_split};
+use key_class::{Key, KeyClass, KeyRefusal, Span, check_unused, quadratic_split};
 
-impl Rectangle {
-    /// The rectangle whose left, bottom, right and top these words are, in two's complement.
-    pub fn from_words(words: &[u32; 4]) -> Result<Rectangle, KeyRefusal>
-        ensures { result ≡ of_four read_rectangle words.now }
-    {
-        let left = words[0].cast_signed();
-        let bottom = words[1].cast_signed();
-        let right = words[2].cast_signed();
-        let top = words[3].cast_signed();
+/// From the words for left, bottom, right and top, in two's complement.
+impl TryFrom<[u32; 4]> for Rectangle {
+    type Error = KeyRefusal;
+
+    ghost try_from_gives = { λ words result. result ≡ of_four read_rectangle words };
+
+    fn try_from(words: [u32; 4]) -> Result<Rectangle, KeyRefusal> {
+        let [left, bottom, right, top] = words;
+        let left = left.cast_signed();
+        let bottom = bottom.cast_signed();
+        let right = right.cast_signed();
+        let top = top.cast_signed();
         if left > right {
             return Err(KeyRefusal::LowAboveHigh(0));
         }
@@ -33,25 +35,43 @@ impl Rectangle {
             top,
         })
     }
+}
+
+impl Rectangle {
+    fn across(&self) -> Span<i32>
+        ensures { result ≡ record { low = self.now.left; high = self.now.right } }
+    {
+        Span {
+            low: self.left,
+            high: self.right,
+        }
+    }
+
+    fn upward(&self) -> Span<i32>
+        ensures { result ≡ record { low = self.now.bottom; high = self.now.top } }
+    {
+        Span {
+            low: self.bottom,
+            high: self.top,
+        }
+    }
 
     fn contains(&self, other: &Rectangle) -> bool
         ensures { result ≡ covers self.now other.now }
     {
-        contains(self.left, self.right, other.left, other.right)
-            && contains(self.bottom, self.top, other.bottom, other.top)
+        self.across().contains(&other.across()) && self.upward().contains(&other.upward())
     }
 
     fn meets(&self, other: &Rectangle) -> bool
         ensures { result ≡ meets self.now other.now }
     {
-        overlaps(self.left, self.right, other.left, other.right)
-            && overlaps(self.bottom, self.top, other.bottom, other.top)
+        self.across().meets(&other.across()) && self.upward().meets(&other.upward())
     }
 
     fn holds_point(&self, x: i32, y: i32) -> bool
         ensures { result ≡ holds_point self.now x y }
     {
-        contains(self.left, self.right, x, x) && contains(self.bottom, self.top, y, y)
+        self.across().holds(&x) && self.upward().holds(&y)
     }
 
     fn area(&self) -> u64
@@ -68,14 +88,14 @@ impl RectangleQuery {
     pub fn meets(words: &[u32; 4]) -> Result<RectangleQuery, KeyRefusal>
         ensures { result ≡ result_map_both Meets (λ e. e) (of_four read_rectangle words.now) }
     {
-        Ok(RectangleQuery::Meets(Rectangle::from_words(words)?))
+        Ok(RectangleQuery::Meets(Rectangle::try_from(*words)?))
     }
 
     /// Which rectangles lie in this one?
     pub fn inside(words: &[u32; 4]) -> Result<RectangleQuery, KeyRefusal>
         ensures { result ≡ result_map_both Inside (λ e. e) (of_four read_rectangle words.now) }
     {
-        Ok(RectangleQuery::Inside(Rectangle::from_words(words)?))
+        Ok(RectangleQuery::Inside(Rectangle::try_from(*words)?))
     }
 
     /// Which rectangles hold the point whose words across and up come first? The other two words are not used.
@@ -119,7 +139,7 @@ impl Key for Rectangle {
     }
 
     fn unsqueeze(words: &[u32; 4]) -> Option<Rectangle> {
-        Rectangle::from_words(words).ok()
+        Rectangle::try_from(*words).ok()
     }
 }
 
@@ -143,14 +163,14 @@ impl KeyClass for Rectangle {
 
     fn covers(&self, other: &Rectangle) -> bool
         ensures value { result ≡ covers self.now other.now }
-        ensures points { Decides result (Contains self.now other.now) }
+        ensures points { IsTrue result ↔ Contains self.now other.now }
     {
         self.contains(other)
     }
 
     fn matches(&self, query: &RectangleQuery) -> bool
         ensures value { result ≡ matches self.now query.now }
-        ensures points { Decides result (Fulfils self.now query.now) }
+        ensures points { IsTrue result ↔ Fulfils self.now query.now }
     {
         match query {
             RectangleQuery::Meets(q) => self.meets(q),

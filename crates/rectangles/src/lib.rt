@@ -1,7 +1,6 @@
 //! The class of rectangles: areas of a board.
 #![tactic(auto)]
 
-mod axis;
 mod class;
 mod rectangle;
 

@@ -1,6 +1,8 @@
 ghost use Rattle.std.specs.Prelude.{◌^◌, ◌<◌, ◌≤ℤ◌};
 ghost use Rattle.std.specs.Int.Signed.{mag};
 
+use std::fmt;
+
 /// A rectangle in whole micrometres, its edges in it.
 #[derive(Clone, Copy, PartialEq, Eq, Debug)]
 pub struct Rectangle {
@@ -14,6 +16,18 @@ pub struct Rectangle {
     ghost south: { mag bottom < 2 ^ 31 },
     ghost east: { mag right < 2 ^ 31 },
     ghost north: { mag top < 2 ^ 31 },
+}
+
+impl fmt::Display for Rectangle {
+    fn fmt<W: fmt::Write>(&self, f: &mut fmt::Formatter<W>) -> fmt::Result {
+        let Rectangle {
+            left,
+            bottom,
+            right,
+            top,
+        } = *self;
+        write!(f, "({left}, {bottom}) to ({right}, {top})")
+    }
 }
 
 /// A question about rectangles.

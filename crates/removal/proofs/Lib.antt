@@ -1,7 +1,7 @@
-pub mod Placing
-pub mod Sharing
 pub mod Shifting
-pub mod Joining
 pub mod Framing
+pub mod Sharing
+pub mod Joining
+pub mod Placing
 pub mod Stepping
 pub mod Rooting

@@ -1,89 +1,119 @@
--- The entries of two nodes put together on one page, or shared out anew.
-use Rattle.std.proofs.Common.{◌≡◌, ℕ, ◌+◌, ◌≤◌, Bool, cond, leb, List, [], ◌∷◌, ◌++◌, length, set, Some, None, Ok, Err, Option, sym, ap, ◌∙◌, subst, arith}
+-- Nodes written to their pages: one, two put together on one page, and two shared out anew.
+use Rattle.std.proofs.Common.{◌≡◌, ℕ, ◌+◌, ◌≤◌, Bool, cond, leb, List, [], ◌∷◌, ◌++◌, length, set, Some, None, Option, sym, ap, ◌∙◌, subst, arith, length-append}
+use Rattle.std.specs.Option.{option_map}
 use Rattle.std.proofs.lemmas.Bool.{le-leb, both_ways}
+use Rattle.std.proofs.lemmas.Option.{none-some}
 use Rattle.page_store.specs.Pages.{Pages, Words}
-use Rattle.page_store.specs.Calls.{GivesBack}
-use Rattle.page_store.specs.declared.refusal.StoreRefusal.{StoreRefusal}
-use Rattle.page_store.proofs.Calling.{Held, changed_held, give_ok, give_refused}
+use Rattle.page_store.proofs.Calling.{Held, ChangeOk, Refused, changed_held}
 use Rattle.key_class.specs.Class.{Growing, Class, Lawful}
-use Rattle.key_class.specs.Joined.{joined}
 use Rattle.node.specs.Nodes.{Entry, keys, node_words, stay, go}
 use Rattle.node.specs.Reading.{level_in}
 use Rattle.node.specs.InMemory.{words_in, Stands, Pooled}
 use Rattle.node.specs.declared.memory.Node.{Node}
 use Rattle.node.specs.declared.memory.Pool.{Pool}
-use Rattle.gist.specs.Rules.{Between}
 use Rattle.gist.proofs.Nodes.{split_sizes}
 use Rattle.tree_pages.specs.OneNode.{Saves}
-use Rattle.tree_pages.specs.Laid.{edited}
-use Rattle.tree_pages.proofs.Entries.{no_key}
 use Rattle.tree_pages.proofs.Over.{set_held}
-use Rattle.removal.specs.Mending.{Shared}
+use Rattle.removal.specs.Mending.{entry_to, SavesNode, Merges, Shares}
+use Rattle.removal.specs.declared.paged.PagedNode.{PagedNode}
+
+-- What holds where there is room for m of n.
+fits : {A : Type 0} (P : A → Type 0) (m n : ℕ) {b : Bool} {x : A} (y : A) → m ≤ n → (b ≡ leb m n) × P (cond b x y) → P x
+fits P m n {b} {x} y l h = subst (λ (c : Bool). P (cond c x y)) (h.0 ∙ le-leb m n l) h.1
 
 module _ {K : Type 0} (G : Growing K) where
-  -- A node saved on a held page.
-  pub saved_none : {s t : Pages} {p : ℕ} {n : Node} (level : ℕ) (es : List (Entry K ℕ)) → Stands G n level es → 1 ≤ length es → Held s p → Saves G s t p n None → ⊥
-  saved_none level es st l h v = no_key G es l (v.union level es h st)
-
-  pub saved_pages : {s t : Pages} {p : ℕ} {n : Node} {r : Option K} (level : ℕ) (es : List (Entry K ℕ)) → Stands G n level es → Held s p → Saves G s t p n r
-      → t ≡ set s p (Some (node_words G level es))
-  saved_pages {s} {t} {p} level es st h v = v.pages ∙ changed_held s p _ h ∙ ap (λ (w : Words). set s p (Some w)) st
-
-  -- What is held stays held when another is saved.
-  pub saved_held : {s t : Pages} {q : ℕ} {n : Node} {r : Option K} (p level : ℕ) (es : List (Entry K ℕ)) → Stands G n level es → Held s q → Saves G s t q n r → Held s p → Held t p
-  saved_held {s} {t} {q} p level es st h v hp = subst (λ (x : Pages). Held x p) (sym (saved_pages level es st h v)) (set_held s q _ p hp)
-
-  -- Entries put behind others, where there is room.
-  pub appended : (n : Node) (level : ℕ) (ys xs : List (Entry K ℕ)) (b : Bool) → length ys + length xs ≤ 12 → (b ≡ leb (length ys + length xs) 12) × Stands G n level (cond b (ys ++ xs) ys)
-      → Stands G n level (ys ++ xs)
-  appended n level ys xs b l h = subst (λ (c : Bool). Stands G n level (cond c (ys ++ xs) ys)) (h.0 ∙ le-leb (length ys + length xs) 12 l) h.1
-
-  pub pooled : (p : Pool) (ys xs : List (Entry K ℕ)) (b : Bool) → length ys + length xs ≤ 15 → (b ≡ leb (length ys + length xs) 15) × Pooled G p (cond b (ys ++ xs) ys) → Pooled G p (ys ++ xs)
-  pooled p ys xs b l h = subst (λ (c : Bool). Pooled G p (cond c (ys ++ xs) ys)) (h.0 ∙ le-leb (length ys + length xs) 15 l) h.1
+  -- An entry to a node is missing only where the node has none.
+  pub no_entry : (p : ℕ) (es : List (Entry K ℕ)) → 1 ≤ length es → None ≡ entry_to G p es → ⊥
+  no_entry p [] l e = omega arith
+  no_entry p (x ∷ es) l e = none-some _ e
 
   level_is : (w : Words) (level : ℕ) (es : List (Entry K ℕ)) → w ≡ node_words G level es → level_in w ≡ level
   unfolding node_words
   level_is w level es is = ap level_in is
 
-  -- One page gets all, and the other is given back.
-  module _ {s m t : Pages} {q p : ℕ} {y : Node} {k : K} (level : ℕ) (es : List (Entry K ℕ)) (st : Stands G y level es) (hq : Held s q) (hp : Held s p) (v : Saves G s m q y (Some k)) where
-    pub merged : GivesBack m t p (Ok tt) → (Some k ≡ joined G (keys es)) × (t ≡ edited s ((p, None) ∷ (q, Some (node_words G level es)) ∷ []))
-    merged b = (v.union level es hq st, (give_ok b).pages ∙ ap (λ (x : Pages). set x p None) (saved_pages level es st hq v))
+module _ {K : Type 0} {G : Growing K} where
+  -- One node is written.
+  pub saved : {s t : Pages} {x : PagedNode} {k : Option K} {r : Option (Entry K ℕ)} → r ≡ option_map (λ k. record { key = k; link = x.page }) k → Saves G s t x.page x.node k → SavesNode G s t x r
+  saved {s} {t} {x} {k} {r} is v = record {
+    says = λ level xs st held. (
+      is ∙ ap (option_map (λ (a : K). record { key = a; link = x.page })) (v.union level xs held st),
+      v.pages ∙ changed_held s x.page _ held ∙ ap (λ (w : Words). set s x.page (Some w)) st,
+    );
+  }
 
-    pub not_merged : (e : StoreRefusal) → GivesBack m t p (Err e) → ⊥
-    not_merged e b = both_ways _ (give_refused b).free (saved_held p level es st hq v hp)
+  -- What is held stays held.
+  still_held : {s t : Pages} {x : PagedNode} {r : Option (Entry K ℕ)} → SavesNode G s t x r → (level : ℕ) (xs : List (Entry K ℕ)) → Stands G x.node level xs → Held s x.page → (p : ℕ) → Held s p → Held t p
+  still_held {s} {t} {x} v level xs st held p h = subst (λ (z : Pages). Held z p) (sym (v.says level xs st held).1) (set_held s x.page _ p h)
 
-module _ {K Q : Type 0} (G : Growing K) (C : Class K Q) (law : Lawful C) where
-  -- Both parts of a split have entries.
-  parts : (es : List (Entry K ℕ)) → 13 ≤ length es → length es ≤ 15
-      → Between 4 12 (length (stay (C.split (keys es)) es)) × Between 4 12 (length (go (C.split (keys es)) es))
-  parts es l m = split_sizes C law es l m
+-- Two are put together on the page of one of them, and the page of the other is given back.
+module _ {K : Type 0} {G : Growing K} {s m : Pages} {y x : PagedNode} {z : Node} {b : Bool}
+    (append : (level other : ℕ) (ys xs : List (Entry K ℕ)) → Stands G y.node level ys → Stands G x.node other xs → (b ≡ leb (length ys + length xs) 12) × Stands G z level (cond b (ys ++ xs) ys)) where
+  pub not_saved : {r : Option (Entry K ℕ)} → SavesNode G s m (record { page = y.page; node = z }) None → Merges G s m y x r
+  not_saved v = record {
+    says = λ level ys xs sy sx some few hy hx.
+        absurd (no_entry G y.page (ys ++ xs) (omega (arith, length-append ys xs)) (v.says level _ (fits (Stands G z level) (length ys + length xs) 12 ys few (append level level ys xs sy sx)) hy).0);
+  }
 
-  -- Of thirteen to fifteen entries, those that stay and those that go.
-  module _ (x stays goes : Node) (level lv : ℕ) (xs es : List (Entry K ℕ)) (l : 13 ≤ length es) (m : length es ≤ 15)
-      (lev : lv ≡ level_in (words_in x)) (sx : Stands G x level xs)
-      (both : Stands G stays lv (stay (C.split (keys es)) es) × Stands G goes lv (go (C.split (keys es)) es)) where
-    same_level : lv ≡ level
-    same_level = lev ∙ level_is G (words_in x) level xs sx
+  module _ {t : Pages} {a : Entry K ℕ} (v : SavesNode G s m (record { page = y.page; node = z }) (Some a)) where
+    pub not_given : {r : Option (Entry K ℕ)} → Refused m t x.page → Merges G s t y x r
+    not_given refused = record {
+      says = λ level ys xs sy sx some few hy hx.
+          absurd (both_ways _ refused.free (still_held v level _ (fits (Stands G z level) (length ys + length xs) 12 ys few (append level level ys xs sy sx)) hy x.page hx));
+    }
 
-    stay_stands : Stands G stays level (stay (C.split (keys es)) es)
-    stay_stands = subst (λ (n : ℕ). Stands G stays n (stay (C.split (keys es)) es)) same_level both.0
+    pub merged : ChangeOk m t x.page None → Merges G s t y x (Some a)
+    merged given = record {
+      says = λ level ys xs sy sx some few hy hx.
+          let k = v.says level _ (fits (Stands G z level) (length ys + length xs) 12 ys few (append level level ys xs sy sx)) hy in
+          (k.0, given.pages ∙ ap (λ (u : Pages). set u x.page None) k.1);
+    }
 
-    go_stands : Stands G goes level (go (C.split (keys es)) es)
-    go_stands = subst (λ (n : ℕ). Stands G goes n (go (C.split (keys es)) es)) same_level both.1
+-- Two are shared out anew: one has those that stay, and the other those that go, and both have some.
+pub record Splits {K Q : Type 0} (G : Growing K) (C : Class K Q) (y x : PagedNode) (both : Node × Node) : Type 0 where
+  stands : (level : ℕ) (ys xs : List (Entry K ℕ)) → Stands G y.node level ys → Stands G x.node level xs → 13 ≤ length ys + length xs → length ys + length xs ≤ 15
+      → Stands G both.0 level (stay (C.split (keys (ys ++ xs))) (ys ++ xs)) × Stands G both.1 level (go (C.split (keys (ys ++ xs))) (ys ++ xs))
+  sizes : (ys xs : List (Entry K ℕ)) → 13 ≤ length ys + length xs → length ys + length xs ≤ 15
+      → (1 ≤ length (stay (C.split (keys (ys ++ xs))) (ys ++ xs))) × (1 ≤ length (go (C.split (keys (ys ++ xs))) (ys ++ xs)))
 
-    pub not_stayed : {s t : Pages} {q : ℕ} → Held s q → Saves G s t q stays None → ⊥
-    not_stayed hq v = saved_none G level _ stay_stands (omega (arith, parts es l m)) hq v
+module _ {K Q : Type 0} {G : Growing K} {C : Class K Q} {y x : PagedNode} where
+  pub splits : {none some all : Pool} {b c : Bool} {lv : ℕ} → Lawful C → Pooled G none []
+      → ((level : ℕ) (es fs : List (Entry K ℕ)) → Pooled G none es → Stands G y.node level fs → (b ≡ leb (length es + length fs) 15) × Pooled G some (cond b (es ++ fs) es))
+      → ((level : ℕ) (es fs : List (Entry K ℕ)) → Pooled G some es → Stands G x.node level fs → (c ≡ leb (length es + length fs) 15) × Pooled G all (cond c (es ++ fs) es))
+      → lv ≡ level_in (words_in x.node) → (both : Node × Node)
+      → ((es : List (Entry K ℕ)) → Pooled G all es → 13 ≤ length es → length es ≤ 15 → Stands G both.0 lv (stay (C.split (keys es)) es) × Stands G both.1 lv (go (C.split (keys es)) es))
+      → Splits G C y x both
+  splits {none} {some} {all} {b} {c} {lv} law new push push_more lev both split = record {
+    stands = λ level ys xs sy sx many few.
+        let p = fits (Pooled G some) (0 + length ys) 15 [] (omega arith) (push level [] ys new sy) in
+        let q = fits (Pooled G all) (length ys + length xs) 15 ys few (push_more level ys xs p sx) in
+        let e : lv ≡ level = lev ∙ level_is G (words_in x.node) level xs sx in
+        subst (λ (l : ℕ). Stands G both.0 l (stay (C.split (keys (ys ++ xs))) (ys ++ xs)) × Stands G both.1 l (go (C.split (keys (ys ++ xs))) (ys ++ xs))) e
+        (split (ys ++ xs) q (omega (arith, length-append ys xs)) (omega (arith, length-append ys xs)));
+    sizes = λ ys xs many few.
+        let m = split_sizes C law (ys ++ xs) (omega (arith, length-append ys xs)) (omega (arith, length-append ys xs)) in
+        (omega (arith, m.0), omega (arith, m.1));
+  }
 
-    pub not_gone : {s t u : Pages} {q p : ℕ} {a : K} → Held s q → Held s p → Saves G s t q stays (Some a) → Saves G t u p goes None → ⊥
-    not_gone {p = p} hq hp v w = saved_none G level _ go_stands (omega (arith, parts es l m)) (saved_held G p level _ stay_stands hq v hp) w
+  module _ {both : Node × Node} (parts : Splits G C y x both) {s m : Pages} where
+    pub not_stayed : {r : Option (Entry K ℕ × Entry K ℕ)} → SavesNode G s m (record { page = y.page; node = both.0 }) None → Shares G C s m y x r
+    not_stayed v = record {
+      says = λ level ys xs sy sx many few hy hx.
+          absurd (no_entry G y.page _ (parts.sizes ys xs many few).0 (v.says level _ (parts.stands level ys xs sy sx many few).0 hy).0);
+    }
 
-    pub shared : {s t u : Pages} {q p : ℕ} {a b : K} → Held s q → Held s p → Saves G s t q stays (Some a) → Saves G t u p goes (Some b)
-        → Shared G s u q p level (stay (C.split (keys es)) es) (go (C.split (keys es)) es) (a, b)
-    shared {p = p} hq hp v w =
-        let ht = saved_held G p level _ stay_stands hq v hp in
-        record {
-          key = sym (v.union level _ hq stay_stands);
-          other_key = sym (w.union level _ ht go_stands);
-          pages = saved_pages G level _ go_stands ht w ∙ ap (λ (x : Pages). set x p (Some (node_words G level (go (C.split (keys es)) es)))) (saved_pages G level _ stay_stands hq v);
-        }
+    module _ {t : Pages} {a : Entry K ℕ} (v : SavesNode G s m (record { page = y.page; node = both.0 }) (Some a)) where
+      pub not_gone : {r : Option (Entry K ℕ × Entry K ℕ)} → SavesNode G m t (record { page = x.page; node = both.1 }) None → Shares G C s t y x r
+      not_gone w = record {
+        says = λ level ys xs sy sx many few hy hx.
+            let st = parts.stands level ys xs sy sx many few in
+            absurd (no_entry G x.page _ (parts.sizes ys xs many few).1 (w.says level _ st.1 (still_held v level _ st.0 hy x.page hx)).0);
+      }
+
+      pub shared : {b : Entry K ℕ} → SavesNode G m t (record { page = x.page; node = both.1 }) (Some b) → Shares G C s t y x (Some (a, b))
+      shared {b} w = record {
+        says = λ level ys xs sy sx many few hy hx.
+            let st = parts.stands level ys xs sy sx many few in
+            let k = v.says level _ st.0 hy in
+            let l = w.says level _ st.1 (still_held v level _ st.0 hy x.page hx) in
+            (k.0, l.0, l.1 ∙ ap (λ (u : Pages). set u x.page (Some (node_words G level (go (C.split (keys (ys ++ xs))) (ys ++ xs))))) k.1);
+      }

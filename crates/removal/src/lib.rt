@@ -4,6 +4,7 @@
 
 mod leaf;
 mod mend;
+mod paged;
 mod refusal;
 mod under;
 mod whole;

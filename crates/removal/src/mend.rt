@@ -1,91 +1,93 @@
-ghost use Rattle.std.specs.Prelude.{◌≡◌};
 ghost use Rattle.removal.specs.Mending.{Merges, Shares, Joins, Mends};
 
+use crate::paged::PagedNode;
 use key_class::KeyClass;
-use node::{Node, Pool};
+use node::{Entry, Node, Pool};
 use page_store::PageStore;
-use tree_pages::{least_growth, load, save};
+use tree_pages::{least_growth, load};
 
-// Puts the entries of `x` behind those of its partner `y`, writes them to the partner's page and gives the page of `x` back.
+// Puts the entries of the child behind those of its partner, on the partner's page, and gives the page of the child back.
 fn merge<K: KeyClass, S: PageStore>(
     store: &mut S,
-    partner: u32,
-    mut y: Node,
-    page: u32,
-    x: &Node,
-) -> Option<K>
-    ensures { S.rule store.old → S.rule store.new × Merges K.Key.growing (S.meaning store.old) (S.meaning store.new) partner y page x.now result }
+    mut partner: PagedNode,
+    child: &PagedNode,
+) -> Option<Entry<K, u32>>
+    ensures { Merges K.Key.growing (S.meaning store.old) (S.meaning store.new) partner child.now result }
 {
-    y.append::<K>(x);
-    let key = save(store, partner, &y)?;
-    match store.give_back(page) {
-        Ok(()) => Some(key),
-        Err(_) => None,
-    }
+    partner.node.append::<K>(&child.node);
+    let joined = partner.save(store)?;
+    store.give_back(child.page).ok()?;
+    Some(joined)
 }
 
-// Shares out the entries of `x` and its partner `y` anew: those that stay go to the partner's page, the others to the page of `x`.
+// Shares out the entries of the child and its partner anew: those that stay go to the partner's page, the others to the
+// page of the child.
 fn share_out<K: KeyClass, S: PageStore>(
     store: &mut S,
-    partner: u32,
-    y: &Node,
-    page: u32,
-    x: &Node,
-) -> Option<(K, K)>
-    ensures { S.rule store.old → S.rule store.new × Shares K.Key.growing K.class (S.meaning store.old) (S.meaning store.new) partner y.now page x.now result }
+    partner: &PagedNode,
+    child: &PagedNode,
+) -> Option<(Entry<K, u32>, Entry<K, u32>)>
+    ensures { Shares K.Key.growing K.class (S.meaning store.old) (S.meaning store.new) partner.now child.now result }
 {
     let mut pool = Pool::new::<K>();
-    pool.push_all::<K>(y);
-    pool.push_all::<K>(x);
-    let (stay, go) = pool.split::<K>(x.level());
-    let partner_key = save(store, partner, &stay)?;
-    let key = save(store, page, &go)?;
-    Some((partner_key, key))
+    pool.push_all::<K>(&partner.node);
+    pool.push_all::<K>(&child.node);
+    let (stay, go) = pool.split::<K>(child.node.level());
+    let stay = PagedNode {
+        page: partner.page,
+        node: stay,
+    };
+    let go = PagedNode {
+        page: child.page,
+        node: go,
+    };
+    Some((stay.save(store)?, go.save(store)?))
 }
 
-// Joins the thin node `x`, at place `i`, to the one of the others whose key grows least for its key.
+// Joins the thin child, at place `i`, to the one of the others whose key grows least for its key.
 fn join<K: KeyClass, S: PageStore>(
     store: &mut S,
     mut node: Node,
     i: usize,
-    page: u32,
-    x: &Node,
+    child: &PagedNode,
 ) -> Option<Node>
-    ensures { S.rule store.old → S.rule store.new × Joins K.class (S.meaning store.old) (S.meaning store.new) node i page x.now result }
+    ensures { Joins K.class (S.meaning store.old) (S.meaning store.new) node i child.now result }
 {
     let mut others = node;
     others.remove::<K>(i);
-    let key: K = x.union()?;
+    let key: K = child.node.union()?;
     let j = least_growth(&others, &key)?;
-    let partner = others.link::<K>(j)?;
-    let y = load(store, partner)?;
-    if y.count() + x.count() <= 12 {
-        let joined: K = merge(store, partner, y, page, x)?;
-        others.replace(j, &joined, partner);
+    let page = others.link::<K>(j)?;
+    let partner = PagedNode {
+        page,
+        node: load(store, page)?,
+    };
+    if partner.node.count() + child.node.count() <= Node::CAPACITY {
+        let joined = merge::<K, S>(store, partner, child)?;
+        others.replace(j, &joined);
         return Some(others);
     }
-    let (partner_key, new_key): (K, K) = share_out(store, partner, &y, page, x)?;
+    let (stay, go) = share_out::<K, S>(store, &partner, child)?;
     let place = if j < i { j } else { j.saturating_add(1) };
-    node.replace(place, &partner_key, partner);
-    node.replace(i, &new_key, page);
+    node.replace(place, &stay);
+    node.replace(i, &go);
     Some(node)
 }
 
-// Writes the node `x`, which stands at place `i` of `node`, or joins it to a partner where it is thin; answers the node
-// with the keys formed anew, and none where the pages form no tree.
+// Writes the child, which stands at place `i` of `node`, or joins it to a partner where it is thin; answers the node with
+// the keys formed anew, and none where the pages form no tree.
 pub(crate) fn mend<K: KeyClass, S: PageStore>(
     store: &mut S,
     mut node: Node,
     i: usize,
-    page: u32,
-    x: &Node,
+    child: &PagedNode,
 ) -> Option<Node>
-    ensures { S.rule store.old → S.rule store.new × Mends K.class (S.meaning store.old) (S.meaning store.new) node i page x.now result }
+    ensures { Mends K.class (S.meaning store.old) (S.meaning store.new) node i child.now result }
 {
-    if x.count() < 4 {
-        return join::<K, S>(store, node, i, page, x);
+    if child.node.count() < 4 {
+        return join::<K, S>(store, node, i, child);
     }
-    let key: K = save(store, page, x)?;
-    node.replace(i, &key, page);
+    let entry = child.save::<K, S>(store)?;
+    node.replace(i, &entry);
     Some(node)
 }

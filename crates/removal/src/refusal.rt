@@ -1,14 +1,16 @@
 ghost use Rattle.std.specs.Prelude.{◌≡◌};
 ghost use Rattle.removal.specs.Refusals.{number_of};
 
-use std::fmt;
+use thiserror::Error;
 
 /// Why a removal is not done.
-#[derive(Clone, Copy, PartialEq, Eq, Debug)]
+#[derive(Clone, Copy, PartialEq, Eq, Debug, Error)]
 pub enum RemoveRefusal {
     /// The tree has no record of this key and number.
+    #[error("refused 34: no such record")]
     NoSuchRecord,
-    /// The pages form no tree, or the store breaks its rule. No index that was made and changed by its own calls meets this.
+    /// No index answers this: that there is a tree is part of its type.
+    #[error("the pages form no tree")]
     NotATree,
 }
 
@@ -20,15 +22,6 @@ impl RemoveRefusal {
         match self {
             RemoveRefusal::NoSuchRecord => Some(34),
             RemoveRefusal::NotATree => None,
-        }
-    }
-}
-
-impl fmt::Display for RemoveRefusal {
-    fn fmt<W: fmt::Write>(&self, f: &mut fmt::Formatter<W>) -> fmt::Result {
-        match self {
-            RemoveRefusal::NoSuchRecord => write!(f, "refused 34: no such record"),
-            RemoveRefusal::NotATree => write!(f, "the pages form no tree"),
         }
     }
 }

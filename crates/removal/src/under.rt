@@ -1,11 +1,11 @@
-ghost use Rattle.std.specs.Prelude.{◌≡◌};
 ghost use Rattle.removal.specs.Under.{RemovesUnder};
 
 use crate::leaf::take_out;
 use crate::mend::mend;
+use crate::paged::PagedNode;
 use crate::refusal::RemoveRefusal;
 use key_class::KeyClass;
-use node::Node;
+use node::{Entry, Node};
 use page_store::PageStore;
 use tree_pages::load;
 
@@ -15,35 +15,30 @@ pub(crate) fn remove_under<K: KeyClass, S: PageStore>(
     store: &mut S,
     page: u32,
     level: u32,
-    key: &K,
-    number: u32,
+    entry: &Entry<K, u32>,
 ) -> Result<Node, RemoveRefusal>
-    ensures { S.rule store.old → S.rule store.new × RemovesUnder K.class (S.meaning store.old) (S.meaning store.new) page level key.now number result }
+    ensures { RemovesUnder K.class (S.meaning store.old) (S.meaning store.new) page level entry.now.key entry.now.link result }
 {
-    let Some(node) = load(store, page) else {
-        return Err(RemoveRefusal::NotATree);
-    };
+    let node = load(store, page).ok_or(RemoveRefusal::NotATree)?;
     if level <= 1 {
-        return take_out(node, key, number).ok_or(RemoveRefusal::NoSuchRecord);
+        return take_out(node, entry).ok_or(RemoveRefusal::NoSuchRecord);
     }
+    // By place: what comes of a child is put in its place.
     for i in 0..node.count() {
-        let Some(child_key) = node.key::<K>(i) else {
-            return Err(RemoveRefusal::NotATree);
-        };
-        if child_key.covers(key) {
-            let Some(child) = node.link::<K>(i) else {
-                return Err(RemoveRefusal::NotATree);
-            };
-            match remove_under(store, child, level - 1, key, number) {
-                Ok(x) => {
-                    return mend::<K, S>(store, node, i, child, &x).ok_or(RemoveRefusal::NotATree);
-                }
-                Err(refusal) => {
-                    if let RemoveRefusal::NotATree = refusal {
-                        return Err(refusal);
-                    }
-                }
+        let child: Entry<K, u32> = node.entry(i).ok_or(RemoveRefusal::NotATree)?;
+        if !child.key.covers(&entry.key) {
+            continue;
+        }
+        match remove_under(store, child.link, level - 1, entry) {
+            Ok(changed) => {
+                let child = PagedNode {
+                    page: child.link,
+                    node: changed,
+                };
+                return mend::<K, S>(store, node, i, &child).ok_or(RemoveRefusal::NotATree);
             }
+            Err(RemoveRefusal::NoSuchRecord) => {}
+            Err(RemoveRefusal::NotATree) => return Err(RemoveRefusal::NotATree),
         }
     }
     Err(RemoveRefusal::NoSuchRecord)

@@ -109,20 +109,9 @@ fn refusals<S: PageStore>(below: S) -> (S, [Answer; 6], Result<u32, StoreRefusal
 #[test]
 fn a_cache_refuses_as_the_store_below(rt: HostRuntime) -> Result<(), Fail> {
     let (store, answers, full, word) = refusals(memory_of(&rt, 1)?);
-    let [
-        read_free,
-        read_outside,
-        write_free,
-        write_outside,
-        give_free,
-        give_outside,
-    ] = answers;
-    assert_eq!(rt; read_free, Err(StoreRefusal::NotHeld));
-    assert_eq!(rt; read_outside, Err(StoreRefusal::OutOfRange));
-    assert_eq!(rt; write_free, Err(StoreRefusal::NotHeld));
-    assert_eq!(rt; write_outside, Err(StoreRefusal::OutOfRange));
-    assert_eq!(rt; give_free, Err(StoreRefusal::NotHeld));
-    assert_eq!(rt; give_outside, Err(StoreRefusal::OutOfRange));
+    let free = Err(StoreRefusal::NotHeld);
+    let outside = Err(StoreRefusal::OutOfRange);
+    assert_eq!(rt; answers, [free, outside, free, outside, free, outside]);
     assert_eq!(rt; full, Err(StoreRefusal::NoFreePage));
     assert_eq!(rt; word, 5);
     assert_eq!(rt; store.free_count(), 0);

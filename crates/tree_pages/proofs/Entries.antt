@@ -5,7 +5,7 @@ use Rattle.std.specs.List.{slice_get}
 use Rattle.std.proofs.lemmas.List.{map-set, map-append}
 use Rattle.key_class.specs.Class.{Growing}
 use Rattle.key_class.specs.Joined.{joined}
-use Rattle.key_class.proofs.Coding.{none_some}
+use Rattle.std.proofs.lemmas.Option.{none-some}
 use Rattle.node.specs.Nodes.{Entry, keys, stay, go, without}
 use Rattle.gist.specs.Tree.{Link, link_number, union_of}
 use Rattle.gist.specs.Insert.{least, least_growth}
@@ -65,17 +65,17 @@ module _ {K : Type 0} (G : Growing K) where
   -- The place of the least growth, where there are entries.
   pub place_none : (k : K) (es : List (Entry K ℕ)) → 1 ≤ length es → None ≡ least_place G k es → ⊥
   place_none k [] l e = omega arith
-  place_none k (x ∷ es) l e = none_some e
+  place_none k (x ∷ es) l e = none-some _ e
 
   pub place_some : (k : K) (es : List (Entry K ℕ)) (i : ℕ) → Some i ≡ least_place G k es → i ≡ least_growth G k es
-  place_some k [] i e = absurd (none_some (sym e))
+  place_some k [] i e = absurd (none-some _ (sym e))
   place_some k (x ∷ es) i e = cc
 
   -- The key of entries on a page.
   pub same_key : (h : ℕ) (k x : K) (es : List (Entry K (Link K h))) → Some x ≡ joined G (keys (on_page h es)) → x ≡ union_of G k es
-  same_key h k x [] e = absurd (none_some (sym e))
+  same_key h k x [] e = absurd (none-some _ (sym e))
   same_key h k x (y ∷ ys) e = let a : joined G (keys (on_page h (y ∷ ys))) ≡ joined G (keys (y ∷ ys)) = ap (joined G) (keys_on_page h (y ∷ ys)) in cc
 
   pub no_key : (es : List (Entry K ℕ)) → 1 ≤ length es → None ≡ joined G (keys es) → ⊥
   no_key [] l e = omega arith
-  no_key (x ∷ es) l e = none_some e
+  no_key (x ∷ es) l e = none-some _ e

@@ -10,7 +10,9 @@ use Rattle.std.specs.List.{AllByRecursion}
 use Rattle.std.proofs.lemmas.List.{set-set, set_comm}
 use Rattle.std.proofs.lemmas.Bool.{cases_eq}
 use Rattle.page_store.specs.Pages.{Pages}
-use Rattle.gist.proofs.Perms.{none_some, some_same, map_perm}
+use Rattle.std.proofs.lemmas.Option.{none-some}
+use Rattle.std.proofs.lemmas.Option.{same_Some}
+use Rattle.gist.proofs.Perms.{map_perm}
 pub use Rattle.tree_pages.specs.Laid.{edited as sets}
 use Rattle.tree_pages.proofs.Once.{first_apart}
 
@@ -21,13 +23,13 @@ option_set {A} s = collapsible→set f c
     f None None p = refl
     f None (Some b) p = p
     f (Some a) None p = p
-    f (Some a) (Some b) p = ap Some (some_same p)
+    f (Some a) (Some b) p = ap Some (same_Some _ _ p)
 
     c : (x y : Option A) (p q : x ≡ y) → f x y p ≡ f x y q
     c None None p q = refl
-    c None (Some b) p q = absurd (none_some p)
-    c (Some a) None p q = absurd (none_some (sym p))
-    c (Some a) (Some b) p q = ap (λ (e : a ≡ b). ap Some e) (s a b (some_same p) (some_same q))
+    c None (Some b) p q = absurd (none-some _ p)
+    c (Some a) None p q = absurd (none-some _ (sym p))
+    c (Some a) (Some b) p q = ap (λ (e : a ≡ b). ap Some e) (s a b (same_Some _ _ p) (same_Some _ _ q))
 
 pub pages_set : IsSet Pages
 pages_set = is_set (option_set (is_set ℕ_set))

@@ -1,11 +1,11 @@
 -- A tree on the pages of a store.
-use Rattle.std.specs.Prelude.{◌≡◌, ℕ, ◌<◌, List, [], ◌∷◌, map, length, Some, None, slice_set}
+use Rattle.std.specs.Prelude.{◌≡◌, ℕ, suc, ◌<◌, List, [], ◌∷◌, map, length, Some, None, Option, slice_set}
 use mathlib.Core.List.{Nodup}
 use Rattle.std.specs.List.{AllByRecursion}
 use Rattle.page_store.specs.Pages.{Pages, at}
 use Rattle.key_class.specs.Class.{Growing}
 use Rattle.node.specs.Nodes.{Entry}
-use Rattle.gist.specs.Tree.{Link, Tree, Gist, empty, root, Written, levels, link_number, pages, written, written_of}
+use Rattle.gist.specs.Tree.{Link, Tree, Gist, empty, root, Written, link_number, pages, written, written_of}
 use Rattle.gist.specs.Rules.{Between, Ruled, PageRules}
 use Rattle.gist.specs.Theorems.{StandsOn}
 use Rattle.tree_pages.specs.declared.root.Root.{Root}
@@ -14,15 +14,10 @@ use Rattle.tree_pages.specs.declared.root.Root.{Root}
 abbrev pub on_page : {K : Type 0} → (h : ℕ) → List (Entry K (Link K h)) → List (Entry K ℕ)
 on_page {K} h es = map (λ e. record { key = e.key; link = link_number K h e.link }) es
 
--- The page of the root; 0 where there is none.
-abbrev pub root_page : {K : Type 0} → Gist K → ℕ
-root_page empty = 0
-root_page (root h t) = t.page
-
--- Where a tree starts.
-pub record StartsAt {K : Type 0} (r : Root) (w : Gist K) : Type 0 where
-  pub page : r.page ≡ root_page w
-  pub levels_are : r.levels ≡ levels w
+-- Where a tree starts: at its root's page, with so many levels; nowhere where it is empty.
+abbrev pub start_of : {K : Type 0} → Gist K → Option Root
+start_of empty = None
+start_of (root h t) = Some (record { page = t.page; levels = suc h })
 
 -- A node of 1 to 12 entries, ruled below, with all its pages on s.
 pub record Lies {K : Type 0} (G : Growing K) (s : Pages) (h : ℕ) (t : Tree K h) : Type 0 where

@@ -1,4 +1,4 @@
-ghost use Rattle.std.specs.Prelude.{◌≡◌, ◌&&◌, leb, if◌then◌else◌, Some, None, nat_le};
+ghost use Rattle.std.specs.Prelude.{◌≡◌, ◌&&◌, if◌then◌else◌, Some, None, nat_le};
 ghost use Rattle.gist.specs.Rules.{least_pages};
 
 /// The least pages of a tree, by its levels.
@@ -9,11 +9,8 @@ pub const MOST_LEVELS: usize = LEAST_PAGES.len();
 
 /// The least pages of a tree with so many levels; none but for 1 to 7.
 pub fn least_pages(levels: u32) -> Option<u32>
-    ensures { result ≡ (if leb 1 levels && nat_le levels 7 then Some (least_pages levels) else None) }
+    ensures { result ≡ (if nat_le 1 levels && nat_le levels 7 then Some (least_pages levels) else None) }
 {
-    let levels = levels as usize;
-    if levels < 1 || levels > MOST_LEVELS {
-        return None;
-    }
-    Some(LEAST_PAGES[levels - 1])
+    let below_the_root = levels.checked_sub(1)?;
+    LEAST_PAGES.get(below_the_root as usize).copied()
 }

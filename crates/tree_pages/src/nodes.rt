@@ -10,23 +10,20 @@ use page_store::PageStore;
 
 /// The node on a page; none where the page is not held, or has more than 12 entries.
 pub fn load<S: PageStore>(store: &mut S, page: u32) -> Option<Node>
-    ensures { S.rule store.old → S.rule store.new × (S.meaning store.new ≡ S.meaning store.old) × (option_map words_in result ≡ loaded (S.meaning store.old) page) }
+    ensures kept { S.meaning store.new ≡ S.meaning store.old }
+    ensures node { option_map words_in result ≡ loaded (S.meaning store.old) page }
 {
     let mut words = [0; 64];
-    match store.read(page, &mut words) {
-        Ok(()) => Node::adopt(words),
-        Err(_) => None,
-    }
+    store.read(page, &mut words).ok()?;
+    Node::adopt(words)
 }
 
 /// Writes a node to its page, and answers the union of its keys; none where the page is not held, or the node has no entry.
 pub fn save<K: Key, S: PageStore>(store: &mut S, page: u32, node: &Node) -> Option<K>
-    ensures { S.rule store.old → S.rule store.new × Saves K.growing (S.meaning store.old) (S.meaning store.new) page node.now result }
+    ensures { Saves K.growing (S.meaning store.old) (S.meaning store.new) page node.now result }
 {
-    match store.write(page, node.words()) {
-        Ok(()) => node.union(),
-        Err(_) => None,
-    }
+    store.write(page, node.words()).ok()?;
+    node.union()
 }
 
 /// The place of the entry whose key grows least for `key`, the lowest on a tie; none where there is no entry.
@@ -36,6 +33,7 @@ pub fn least_growth<K: Key>(node: &Node, key: &K) -> Option<usize>
     let first: K = node.key(0)?;
     let mut best = 0;
     let mut least = first.growth(key);
+    // By place, which is the answer.
     for i in 1..node.count() {
         let other: K = node.key(i)?;
         let growth = other.growth(key);

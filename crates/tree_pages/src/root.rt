@@ -1,5 +1,5 @@
-/// Where a tree starts: the page of its root, 0 where there is none, and how many levels it has.
-#[derive(Clone, Copy)]
+/// Where a tree with a page starts: the page of its root, and how many levels it has.
+#[derive(Clone, Copy, PartialEq, Eq, Debug)]
 pub struct Root {
     pub page: u32,
     pub levels: u32,

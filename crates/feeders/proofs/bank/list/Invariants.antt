@@ -6,7 +6,7 @@ use Rattle.feeders.proofs.bank.list.Given as goal
 abbrev pub invariant-loop-found : goal.invariant-loop-found
 invariant-loop-found g l =
     let S = g.S.PageStore in
-    S.rule l.initial.search.index.store → S.rule l.search.index.store × Worked (S.meaning l.initial.search.index.store) (S.meaning l.search.index.store) l.initial.search l.search l.initial.log l.log
+    Worked (S.meaning l.initial.search.index.store) (S.meaning l.search.index.store) l.initial.search l.search l.initial.log l.log
 
 abbrev pub decreases-loop-found : goal.decreases-loop-found
 decreases-loop-found g l = left_to_do (cursor_in l.search)

@@ -2,6 +2,4 @@ use Rattle.std.proofs.Common.{◌≡◌}
 use Rattle.host.proofs.bank.find.Given as goal
 
 abbrev pub invariant-loop-page : goal.invariant-loop-page
-invariant-loop-page g l =
-    g.S.PageStore.rule l.initial.store
-    → g.S.PageStore.rule l.store × (g.S.PageStore.meaning l.store ≡ g.S.PageStore.meaning l.initial.store)
+invariant-loop-page g l = g.S.PageStore.meaning l.store ≡ g.S.PageStore.meaning l.initial.store

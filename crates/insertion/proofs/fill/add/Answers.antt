@@ -1,49 +1,28 @@
-use Rattle.std.proofs.Common.{◌≡◌, [], ◌∷◌, ◌++◌, length, arith}
+use Rattle.std.proofs.Common.{◌≡◌, [], ◌∷◌, ◌++◌, length, sym, ◌∙◌, arith}
 use Rattle.std.proofs.lemmas.List.{length_push}
-use Rattle.insertion.proofs.Filling.{entry, saved_none, saved, pushed_fits, pushed_full, pooled_all, pooled_one, added, filled_one}
+use Rattle.std.proofs.lemmas.Bool.{ltb-true, ltb-false, le-leb, lt-ltb}
+use Rattle.insertion.proofs.Filling.{level_is, saved, added}
 use Rattle.insertion.proofs.fill.add.Goals as goal
 
-pub returns-in_err-key : goal.returns-in_err-key
-returns-in_err-key g c = λ ru.
-    let G = g.K.Key.growing in
-    let v = c.in_err-key.ensures ru in (
-      v.0,
-      record {
-        says = λ level es st room.
-            let e = entry c.args.key.now c.args.link in
-            let f = pushed_fits G c.push.new.self level es e c.push.result (c.push.ensures level es st) c.if-push.true in
-            absurd (saved_none G level (es ++ e ∷ []) f.1 (omega (arith, length_push es e)) room.held v.1);
-      },
-    )
-
 pub returns-then-push : goal.returns-then-push
-returns-then-push g c = λ ru.
-    let G = g.K.Key.growing in
-    let v = c.in_ok-key.ensures ru in (
-      v.0,
-      record {
-        says = λ level es st room.
-            let e = entry c.args.key.now c.args.link in
-            let f = pushed_fits G c.push.new.self level es e c.push.result (c.push.ensures level es st) c.if-push.true in
-            filled_one G g.K.KeyClass.class g.met.K.KeyClass.lawful _ (g.S.PageStore.meaning c.save.new.store) _ _ _ c.unsplit.result c.unsplit.ensures
-            (saved G level (es ++ e ∷ []) f.1 f.0 room.held v.1);
-      },
-    )
+returns-then-push g c = record {
+  says = λ level es st room.
+      let e = c.args.entry.now in
+      let pushed = rw c.if-push.true at (c.push.ensures level es st) in
+      rw c.unsplit.ensures
+      (saved level (es ++ e ∷ []) pushed.1 (omega (arith, length_push es e, ltb-true (length es) 12 (sym pushed.0))) room.held c.in_ok-key.ensures);
+}
 
 pub returns : goal.returns
-returns g c = λ ru.
-    let G = g.K.Key.growing in
-    let v = c.share_out.ensures ru in (
-      v.0,
-      record {
-        says = λ level es st room.
-            let e = entry c.args.key.now c.args.link in
-            let f = pushed_full G c.push.new.self level es e c.push.result (c.push.ensures level es st) c.if-push.false in
-            let twelve : length es ≡ 12 = omega (arith, f.0, room.few) in
-            let more : length (es ++ e ∷ []) ≡ 13 = omega (arith, length_push es e) in
-            let a = pooled_all G c.push_all.new.self es c.push_all.result twelve (c.push_all.ensures level [] es c.new-pool.ensures f.1) in
-            let b = pooled_one G c.push-2.new.self es e c.push-2.result twelve (c.push-2.ensures es a) in
-            added G g.K.KeyClass.class g.met.K.KeyClass.lawful c.push.new.self c.split.result.0 c.split.result.1 level c.level.result (es ++ e ∷ []) c.share_out.result
-            more room.held (room.spare (omega arith)) c.level.ensures es f.1 (c.split.ensures (es ++ e ∷ []) b (omega arith) (omega arith)) v.1;
-      },
-    )
+returns g c = record {
+  says = λ level es st room.
+      let e = c.args.entry.now in
+      let full = rw c.if-push.false at (c.push.ensures level es st) in
+      let twelve : length es ≡ 12 = omega (arith, ltb-false (length es) 12 (sym full.0), room.few) in
+      let more : length (es ++ e ∷ []) ≡ 13 = omega (arith, length_push es e) in
+      let all = c.push_all.ensures level [] es c.new-pool.ensures full.1 in
+      let one = c.push-2.ensures es (rw (all.0 ∙ le-leb _ 15 (omega arith)) at all.1) in
+      let pooled = rw (one.0 ∙ lt-ltb _ 15 (omega arith)) at one.1 in
+      let parts = rw (c.level.ensures ∙ level_is g.K.Key.growing c.push.new.self level es full.1) at (c.split.ensures (es ++ e ∷ []) pooled (omega arith) (omega arith)) in
+      added g.met.K.KeyClass.lawful level (es ++ e ∷ []) more room.held (room.spare (omega arith)) parts.0 parts.1 c.share_out.result c.share_out.ensures;
+}

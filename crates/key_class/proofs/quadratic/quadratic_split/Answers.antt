@@ -1,30 +1,34 @@
-use Rattle.std.proofs.Common.{ℕ, take, ap, ◌∙◌, arith}
-use Rattle.std.proofs.lemmas.Bool.{both_ways}
+use Rattle.std.proofs.Common.{◌≡◌, List, length, take, refl, ap, arith, subst, ◌∙◌}
+use Rattle.std.proofs.lemmas.Bool.{false≢true}
 use Rattle.key_class.specs.Quadratic.{quadratic}
-use Rattle.key_class.proofs.Coding.{read}
+use Rattle.key_class.proofs.Coding.{read, length_keys}
 use Rattle.key_class.proofs.Seeding.{seeds_first_worst}
 use Rattle.key_class.proofs.Sharing.{quadratic_shares}
 use Rattle.key_class.proofs.quadratic.quadratic_split.Goals as goal
-use Rattle.key_class.proofs.quadratic.quadratic_split.Goals.{then-n-lt13-via-then-n-lt13, then-n-lt13-via-else-n-lt13+then-n-gt15, then-n-lt13-via-else-n-lt13+else-n-gt15+then-not-all_keys}
 
-pub returns-then-n-lt13 : goal.returns-then-n-lt13
-returns-then-n-lt13 g c = record {
-  picks = λ ks e lo hi.
-      let r = read g.met.K.Key.coded ks c.args.words.now e in
-      elim c.then-n-lt13.branch [
-        | then-n-lt13-via-then-n-lt13 w ↦ absurd (omega (arith, r.many, w.if-n-lt13.true))
-        | then-n-lt13-via-else-n-lt13+then-n-gt15 w ↦ absurd (omega (arith, r.many, w.if-n-gt15.true))
-        | then-n-lt13-via-else-n-lt13+else-n-gt15+then-not-all_keys w ↦ absurd (both_ways _ w.if-not-all_keys.true (w.all_keys.ensures.1 r.all))
-      ];
-  seeds = λ d ks e two. seeds_first_worst g.K.Key.growing d ks two;
-  shares = λ ks e. quadratic_shares g.K.Key.growing ks;
-}
+pub returns-then-not-contains-clause-seeds : goal.returns-then-not-contains-clause-seeds
+returns-then-not-contains-clause-seeds g c = λ d ks _. seeds_first_worst g.K.Key.growing d ks
 
-pub returns : goal.returns
-returns g c = record {
-  picks = λ ks e lo hi.
-      let r = read g.met.K.Key.coded ks c.args.words.now e in
-      ap (λ (n : ℕ). take n c.marks.result) r.many ∙ c.marks.ensures ∙ ap (quadratic g.K.Key.growing) r.keys;
-  seeds = λ d ks e two. seeds_first_worst g.K.Key.growing d ks two;
-  shares = λ ks e. quadratic_shares g.K.Key.growing ks;
-}
+pub returns-in_default-clause-picks : goal.returns-in_default-clause-picks
+returns-in_default-clause-picks g c = λ ks e _ _.
+    let all = (read g.met.K.Key.coded ks c.args.words.now e).all in absurd (false≢true (rw c.in_default.is at (c.new-2.ensures.some.1 all)))
+
+pub returns-in_default-clause-seeds : goal.returns-in_default-clause-seeds
+returns-in_default-clause-seeds g c = λ d ks _. seeds_first_worst g.K.Key.growing d ks
+
+pub returns-in_default-clause-shares : goal.returns-in_default-clause-shares
+returns-in_default-clause-shares g c = λ ks _. quadratic_shares g.K.Key.growing ks
+
+pub marks-requires : goal.marks-requires
+marks-requires g c =
+    let n = length_keys g.K.Key.growing c.args.words.now (c.in-Some.ensures.some.0 refl) in let e = ap length c.in-Some.ensures.keys in grind arith
+
+pub returns-clause-picks : goal.returns-clause-picks
+returns-clause-picks g c = λ ks e _ _.
+    subst (λ (l : List g.row.K.Denot). take (length l) c.marks.result ≡ quadratic g.K.Key.growing l) (c.in-Some.ensures.keys ∙ (read g.met.K.Key.coded ks c.args.words.now e).keys) c.marks.ensures
+
+pub returns-clause-seeds : goal.returns-clause-seeds
+returns-clause-seeds g c = λ d ks _. seeds_first_worst g.K.Key.growing d ks
+
+pub returns-clause-shares : goal.returns-clause-shares
+returns-clause-shares g c = λ ks _. quadratic_shares g.K.Key.growing ks

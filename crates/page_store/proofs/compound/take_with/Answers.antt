@@ -4,13 +4,8 @@ use Rattle.page_store.proofs.Calling.{took_words, took_written, write_ok, write_
 use Rattle.page_store.proofs.compound.take_with.Goals as goal
 
 pub returns-in_err-write : goal.returns-in_err-write
-returns-in_err-write g c = λ h.
-    let k = c.in_ok-page.ensures h in
-    let w = c.in_err-write.ensures k.0 in
-    absurd (both_ways _ (write_refused w.1).free (ap is_some (took_words k.1)))
+returns-in_err-write g c =
+    absurd (both_ways _ (write_refused c.in_err-write.ensures).free (ap is_some (took_words c.in_ok-page.ensures)))
 
 pub returns : goal.returns
-returns g c = λ h.
-    let k = c.in_ok-page.ensures h in
-    let w = c.in_ok-write.ensures k.0 in
-    (w.0, took_written k.1 (write_ok w.1))
+returns g c = took_written c.in_ok-page.ensures (write_ok c.in_ok-write.ensures)

@@ -1,41 +1,12 @@
-use Rattle.std.proofs.Common.{◌++◌, arith, length-append}
-use Rattle.removal.proofs.Sharing.{saved_none, appended, merged, not_merged}
+use Rattle.page_store.proofs.Calling.{gives_ok, gives_refused}
+use Rattle.removal.proofs.Sharing.{not_saved, not_given, merged}
 use Rattle.removal.proofs.mend.merge.Goals as goal
 
-pub returns-in_err-key : goal.returns-in_err-key
-returns-in_err-key g c = λ ru.
-    let G = g.K.Key.growing in
-    let v = c.in_err-key.ensures ru in (
-      v.0,
-      record {
-        says = λ level ys xs sy sx some few hq hp.
-            let a = appended G c.append.new.self level ys xs c.append.result few (c.append.ensures level level ys xs sy sx) in
-            absurd (saved_none G level (ys ++ xs) a (omega (arith, length-append ys xs)) hq v.1);
-      },
-    )
+pub returns-in_err-joined : goal.returns-in_err-joined
+returns-in_err-joined g c = not_saved c.append.ensures c.in_err-joined.ensures
 
-pub returns-in-Ok : goal.returns-in-Ok
-returns-in-Ok g c = λ ru.
-    let G = g.K.Key.growing in
-    let v = c.in_ok-key.ensures ru in
-    let w = c.in-Ok.ensures v.0 in (
-      w.0,
-      record {
-        says = λ level ys xs sy sx some few hq hp.
-            let a = appended G c.append.new.self level ys xs c.append.result few (c.append.ensures level level ys xs sy sx) in
-            merged G level (ys ++ xs) a hq hp v.1 w.1;
-      },
-    )
+pub returns-in_err-ok : goal.returns-in_err-ok
+returns-in_err-ok g c = not_given c.append.ensures c.in_ok-joined.ensures (gives_refused c.give_back.result c.in_err-ok.ensures.variant c.give_back.ensures)
 
-pub returns-in-Err : goal.returns-in-Err
-returns-in-Err g c = λ ru.
-    let G = g.K.Key.growing in
-    let v = c.in_ok-key.ensures ru in
-    let w = c.in-Err.ensures v.0 in (
-      w.0,
-      record {
-        says = λ level ys xs sy sx some few hq hp.
-            let a = appended G c.append.new.self level ys xs c.append.result few (c.append.ensures level level ys xs sy sx) in
-            absurd (not_merged G level (ys ++ xs) a hq hp v.1 _ w.1);
-      },
-    )
+pub returns : goal.returns
+returns g c = merged c.append.ensures c.in_ok-joined.ensures (gives_ok c.give_back.result c.in_ok-ok.ensures.variant c.give_back.ensures)

@@ -1,56 +1,47 @@
-use Rattle.std.proofs.Common.{inl, inr, arith}
-use Rattle.removal.proofs.Rooting.{Least, not_written, written_again, not_given, gone, no_child, lower}
+use Rattle.std.proofs.Common.{suc, sym, ◌∙◌, arith}
+use Rattle.std.proofs.lemmas.Bool.{both_ways}
+use Rattle.page_store.proofs.Calling.{writes_ok, writes_refused, gives_ok, gives_refused}
+use Rattle.removal.proofs.Joining.{many_in}
+use Rattle.removal.proofs.Rooting.{levels_are, stays, goes, gives_way, no_child}
 use Rattle.removal.proofs.whole.settle.Goals as goal
-use Rattle.removal.proofs.whole.settle.Goals.{then-root-gt1, else-root-gt1}
 
-pub returns-in-Ok : goal.returns-in-Ok
-returns-in-Ok g c = λ ru.
-    let v = c.in-Ok.ensures ru in
-    let is : Least c.args.root.levels c.if-root-gt1.least = elim c.if-root-gt1.branch [
-      | then-root-gt1 w ↦ inl (w.if-root-gt1.true, w.least-is)
-      | else-root-gt1 w ↦ inr (w.if-root-gt1.false, w.least-is)
-    ] in
-    (v.0, written_again g.K.Key.growing (g.S.PageStore.meaning c.args.store.now) (g.S.PageStore.meaning c.write.new.self) c.args.root c.args.node.now c.if-root-gt1.least is (omega (arith, c.count.ensures, c.if-count-least.true)) c.words.ensures v.1)
+pub returns-in_err-map_err : goal.returns-in_err-map_err
+returns-in_err-map_err g c = record {
+  says = λ h u is st few held. absurd (both_ways _ (writes_refused c.write.result c.in_err-map_err.ensures.variant c.write.ensures).free held);
+}
 
-pub returns-in-Err : goal.returns-in-Err
-returns-in-Err g c = λ ru.
-    let v = c.in-Err.ensures ru in
-    (v.0, not_written g.K.Key.growing (g.S.PageStore.meaning c.args.store.now) (g.S.PageStore.meaning c.write.new.self) c.args.root c.args.node.now _ _ v.1)
+pub returns-then-count-root_least : goal.returns-then-count-root_least
+returns-then-count-root_least g c = record {
+  says = λ h u is st few held.
+      let many = many_in g.K.Key.growing (suc h) h u.entries st in
+      let least = c.root_least.ensures h (levels_are h u is) in
+      let k = writes_ok c.write.result c.in_ok-map_err.ensures.variant c.write.ensures in
+      stays g.K.Key.growing h u is (c.words.ensures ∙ st) (omega (arith, c.count.ensures, c.if-count-root_least.true)) k;
+}
 
-pub returns-in-Err-give_back : goal.returns-in-Err-give_back
-returns-in-Err-give_back g c = λ ru.
-    let v = c.in-Err-give_back.ensures ru in
-    (v.0, not_given g.K.Key.growing (g.S.PageStore.meaning c.args.store.now) (g.S.PageStore.meaning c.give_back.new.self) c.args.root c.args.node.now _ _ v.1)
+pub returns-in_err-map_err-2 : goal.returns-in_err-map_err-2
+returns-in_err-map_err-2 g c = record {
+  says = λ h u is st few held. absurd (both_ways _ (gives_refused c.give_back.result c.in_err-map_err-2.ensures.variant c.give_back.ensures).free held);
+}
+
+pub returns-then-root-le1 : goal.returns-then-root-le1
+returns-then-root-le1 g c = record {
+  says = λ h u is st few held.
+      let many = many_in g.K.Key.growing (suc h) h u.entries st in
+      let least = c.root_least.ensures h (levels_are h u is) in
+      goes g.K.Key.growing h u is c.if-root-le1.true (omega (arith, c.count.ensures, c.if-count-root_least.false)) (gives_ok c.give_back.result c.in_ok-map_err-2.ensures.variant c.give_back.ensures);
+}
 
 pub returns-in_err-page : goal.returns-in_err-page
-returns-in_err-page g c = λ ru.
-    let v = c.in_default.ensures ru in
-    let is : Least c.args.root.levels c.if-root-gt1.least = elim c.if-root-gt1.branch [
-      | then-root-gt1 w ↦ inl (w.if-root-gt1.true, w.least-is)
-      | else-root-gt1 w ↦ inr (w.if-root-gt1.false, w.least-is)
-    ] in (
-      v.0,
-      no_child g.K.Key.growing (g.S.PageStore.meaning c.args.store.now) (g.S.PageStore.meaning c.give_back.new.self) c.args.root c.args.node.now c.if-root-gt1.least is (omega (arith, c.count.ensures, c.if-count-least.false)) v.1
-          c.if-root-gt1-2.true _ c.in_err-page.ensures,
-    )
+returns-in_err-page g c = record {
+  says = λ h u is st few held. absurd (no_child h u is c.if-root-le1.false few (sym c.in_err-page.ensures.ok_part ∙ c.link.ensures _ _ st));
+}
 
-pub returns-in_ok-page : goal.returns-in_ok-page
-returns-in_ok-page g c = λ ru.
-    let v = c.in_default.ensures ru in
-    let is : Least c.args.root.levels c.if-root-gt1.least = elim c.if-root-gt1.branch [
-      | then-root-gt1 w ↦ inl (w.if-root-gt1.true, w.least-is)
-      | else-root-gt1 w ↦ inr (w.if-root-gt1.false, w.least-is)
-    ] in (
-      v.0,
-      lower g.K.Key.growing (g.S.PageStore.meaning c.args.store.now) (g.S.PageStore.meaning c.give_back.new.self) c.args.root c.args.node.now c.if-root-gt1.least is (omega (arith, c.count.ensures, c.if-count-least.false)) v.1
-          c.if-root-gt1-2.true c.in_ok-page.page c.in_ok-page.ensures,
-    )
-
-pub returns-else-root-gt1-2 : goal.returns-else-root-gt1-2
-returns-else-root-gt1-2 g c = λ ru.
-    let v = c.in_default.ensures ru in
-    let is : Least c.args.root.levels c.if-root-gt1.least = elim c.if-root-gt1.branch [
-      | then-root-gt1 w ↦ inl (w.if-root-gt1.true, w.least-is)
-      | else-root-gt1 w ↦ inr (w.if-root-gt1.false, w.least-is)
-    ] in
-    (v.0, gone g.K.Key.growing (g.S.PageStore.meaning c.args.store.now) (g.S.PageStore.meaning c.give_back.new.self) c.args.root c.args.node.now c.if-root-gt1.least is (omega (arith, c.count.ensures, c.if-count-least.false)) v.1 c.if-root-gt1-2.false)
+pub returns : goal.returns
+returns g c = record {
+  says = λ h u is st few held.
+      let many = many_in g.K.Key.growing (suc h) h u.entries st in
+      let least = c.root_least.ensures h (levels_are h u is) in
+      gives_way g.K.Key.growing h u is c.if-root-le1.false few (omega (arith, c.count.ensures, c.if-count-root_least.false))
+      (sym c.in_ok-page.ensures.ok_part ∙ c.link.ensures _ _ st) (gives_ok c.give_back.result c.in_ok-map_err-2.ensures.variant c.give_back.ensures);
+}

@@ -1,17 +1,17 @@
 use Rattle.std.proofs.Common.{sym, ap, ◌∙◌}
-use Rattle.page_store.proofs.Calling.{read_ok, read_refused}
+use Rattle.std.specs.Option.{option_map}
+use Rattle.page_store.proofs.Calling.{reads_ok, reads_refused}
 use Rattle.page_store.proofs.Counting.{none_from}
+use Rattle.node.specs.InMemory.{words_in}
 use Rattle.tree_pages.specs.OneNode.{adopted}
 use Rattle.tree_pages.proofs.nodes.load.Goals as goal
 
-pub returns-in-Ok : goal.returns-in-Ok
-returns-in-Ok g c = λ ru.
-    let r = c.in-Ok.ensures ru in
-    let k = read_ok r.1 in
-    (r.0, k.pages, c.adopt.ensures ∙ sym (ap adopted k.words))
+pub returns-in_err-ok : goal.returns-in_err-ok
+returns-in_err-ok g c =
+    let k = reads_refused c.read.result c.in_err-ok.ensures.variant c.read.ensures in
+    record { kept = k.pages; node = ap (option_map words_in) c.from_residual.ensures ∙ sym (ap adopted (none_from _ k.free)) }
 
-pub returns-in-Err : goal.returns-in-Err
-returns-in-Err g c = λ ru.
-    let r = c.in-Err.ensures ru in
-    let k = (read_refused r.1).0 in
-    (r.0, k.pages, sym (ap adopted (none_from _ k.free)))
+pub returns : goal.returns
+returns g c =
+    let k = reads_ok c.read.result c.in_ok-ok.ensures.variant c.read.ensures in
+    record { kept = k.pages; node = c.adopt.ensures ∙ sym (ap adopted k.words) }

@@ -1,28 +1,25 @@
-use Rattle.std.proofs.Common.{◌≡◌, ℕ, Some, refl, ap, ◌∙◌, arith}
+use Rattle.std.proofs.Common.{Some, ap, ◌∙◌}
+use Rattle.std.proofs.lemmas.Bool.{both_ways}
 use Rattle.page_store.specs.Calls.{changed}
-use Rattle.page_store.proofs.Calling.{write_ok, write_refused}
+use Rattle.page_store.proofs.Calling.{writes_ok, writes_refused}
 use Rattle.tree_pages.proofs.nodes.save.Goals as goal
 
-pub returns-in-Ok : goal.returns-in-Ok
-returns-in-Ok g c = λ ru.
-    let r = c.in-Ok.ensures ru in
-    let s = g.S.PageStore.meaning c.args.store.now in (
-      r.0,
-      record {
-        pages = r.1.pages ∙ ap (λ w. changed s c.args.page (Some w)) c.words.ensures;
-        union = λ level es held is. c.union.ensures level es is;
-        not_held = λ none. let k = write_ok r.1 in let h = k.held in let z : ◌≡◌ {A = ℕ} 0 1 = cc in absurd (omega arith);
-      },
-    )
+pub returns-in_err-ok : goal.returns-in_err-ok
+returns-in_err-ok g c =
+    let s = g.S.PageStore.meaning c.args.store.now in
+    let k = writes_refused c.write.result c.in_err-ok.ensures.variant c.write.ensures in
+    record {
+      pages = c.write.ensures.pages ∙ ap (λ w. changed s c.args.page (Some w)) c.words.ensures;
+      union = λ level es held is. absurd (both_ways _ k.free held);
+      not_held = λ none. c.from_residual.ensures;
+    }
 
-pub returns-in-Err : goal.returns-in-Err
-returns-in-Err g c = λ ru.
-    let r = c.in-Err.ensures ru in
-    let s = g.S.PageStore.meaning c.args.store.now in (
-      r.0,
-      record {
-        pages = r.1.pages ∙ ap (λ w. changed s c.args.page (Some w)) c.words.ensures;
-        union = λ level es held is. let k = write_refused r.1 in let h = k.free in let z : ◌≡◌ {A = ℕ} 0 1 = cc in absurd (omega arith);
-        not_held = λ none. refl;
-      },
-    )
+pub returns : goal.returns
+returns g c =
+    let s = g.S.PageStore.meaning c.args.store.now in
+    let k = writes_ok c.write.result c.in_ok-ok.ensures.variant c.write.ensures in
+    record {
+      pages = c.write.ensures.pages ∙ ap (λ w. changed s c.args.page (Some w)) c.words.ensures;
+      union = λ level es held is. c.union.ensures level es is;
+      not_held = λ none. absurd (both_ways _ none k.held);
+    }

@@ -6,8 +6,5 @@ pub returns : goal.returns
 returns g c = record {
   index = refl;
   query = refl;
-  begins = record {
-    says = λ before w st.
-        c.start-cursor.ensures.says _ _ w st.on.rules (stands _ before _ w st.on) (sym st.starts.page) (sym st.starts.levels_are);
-  };
+  begins = record { says = λ before w st. c.start-cursor.ensures.says _ _ w st.on.rules (stands _ before _ w st.on) (sym st.starts) };
 }

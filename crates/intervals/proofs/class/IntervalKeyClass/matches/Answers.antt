@@ -1,8 +1,5 @@
-use Rattle.intervals.proofs.Points.{matched}
+use Rattle.intervals.proofs.Points.{meets_points}
 use Rattle.intervals.proofs.class.IntervalKeyClass.matches.Goals as goal
 
-pub returns-in-Meets : goal.returns-in-Meets
-returns-in-Meets c = matched c.args.self.now c.args.query.now _ c.meets.result c.in-Meets.is c.meets.ensures
-
-pub returns-in-Inside : goal.returns-in-Inside
-returns-in-Inside c = matched c.args.self.now c.args.query.now _ c.contains.result c.in-Inside.is c.contains.ensures
+pub returns-in-Meets-clause-points : goal.returns-in-Meets-clause-points
+returns-in-Meets-clause-points c = rw (c.meets.ensures, c.in-Meets.is) (meets_points c.args.self.now c.in-Meets.q)

@@ -4,7 +4,7 @@ use Rattle.node.specs.InMemory.{Stands}
 use Rattle.node.proofs.memory.Node.append.Given as goal
 
 -- The first entries of the other are behind the others.
-abbrev pub invariant-loop-i : goal.invariant-loop-i
-invariant-loop-i g l =
+abbrev pub invariant-loop-row : goal.invariant-loop-row
+invariant-loop-row g l =
     (level deep : ℕ) (es fs : List (Entry g.row.K.Denot ℕ)) → Stands g.K.Key.growing l.initial.self level es → Stands g.K.Key.growing l.other deep fs
-    → Stands g.K.Key.growing l.self level (es ++ take l.i fs)
+    → Stands g.K.Key.growing l.self level (es ++ take l.row-index fs)

@@ -1,15 +1,11 @@
-use Rattle.std.proofs.Common.{sym, ap, arith}
+use Rattle.std.proofs.Common.{sym, ap, ◌∙◌}
 use Rattle.std.specs.Option.{option_map}
-use Rattle.std.proofs.lemmas.Option.{slice_get_past}
-use Rattle.node.proofs.Places.{count_is, link_at}
+use Rattle.node.proofs.Places.{none_at, link_at}
 use Rattle.node.proofs.memory.Node.link.Goals as goal
 
-pub returns-then-i-self : goal.returns-then-i-self
-returns-then-i-self g c = λ level es is.
-    let n = count_is g.K.Key.growing level es c.args.self.now.words is in
-    sym (ap (option_map (λ e. e.link)) (slice_get_past es c.args.i (omega arith)))
+pub returns-in_err-link : goal.returns-in_err-link
+returns-in_err-link g c = λ level es is.
+    c.from_residual.ensures ∙ ap (option_map (λ e. e.link)) (sym (none_at g.met.K.Key.coded level es c.args.self.now.words is c.args.i c.in_err-link.ensures))
 
 pub returns : goal.returns
-returns g c = λ level es is.
-    let n = count_is g.K.Key.growing level es c.args.self.now.words is in
-    link_at g.met.K.Key.coded level es c.args.self.now.words is c.args.i (omega arith)
+returns g c = λ level es is. link_at g.met.K.Key.coded level es c.args.self.now.words is c.args.i c.in_ok-link.field-0.now c.in_ok-link.ensures

@@ -6,8 +6,8 @@ use Rattle.node.proofs.Places.{count_is}
 use Rattle.node.proofs.Edits.{replaced}
 use Rattle.node.proofs.memory.Node.replace.Goals as goal
 
-pub returns-then-i-self : goal.returns-then-i-self
-returns-then-i-self g c = λ level es is.
+pub returns-then-i-count : goal.returns-then-i-count
+returns-then-i-count g c = λ level es is.
     let n = count_is g.K.Key.growing level es c.args.self.now.words is in
     (sym (le-ltb _ _ (omega arith)), is ∙ ap (node_words g.K.Key.growing level) (sym (set_past es c.args.i _ (omega arith))))
 
@@ -15,6 +15,6 @@ pub returns : goal.returns
 returns g c = λ level es is.
     let n = count_is g.K.Key.growing level es c.args.self.now.words is in (
       sym (lt-ltb _ _ (omega arith)),
-      replaced g.met.K.Key.coded level es c.args.self.now.words is c.args.i (omega arith) (record { key = c.args.key.now; link = c.args.link })
-          c.squeeze.result c.squeeze.ensures c.put.new.self.words c.put.ensures,
+      replaced g.met.K.Key.coded level es c.args.self.now.words is c.args.i (omega arith) c.args.entry.now
+          c.squeezed.result c.squeezed.ensures c.put.new.self.words c.put.ensures,
     )

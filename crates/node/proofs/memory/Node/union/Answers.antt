@@ -1,37 +1,26 @@
-use Rattle.std.proofs.Common.{◌≡◌, ℕ, zero, suc, ◌+◌, ◌<◌, List, [], ◌∷◌, length, drop, Some, None, sym, refl, ap, ◌∙◌, arith}
+use Rattle.std.proofs.Common.{◌≡◌, ℕ, zero, suc, ◌+◌, List, [], ◌∷◌, drop, Some, sym, ap, ◌∙◌, arith}
 use lib.ListN.{length-map}
 use Rattle.std.specs.Option.{option_map}
 use Rattle.std.specs.List.{slice_get}
 use Rattle.std.proofs.lemmas.List.{at_drop_all}
 use Rattle.key_class.specs.Class.{Growing}
 use Rattle.key_class.specs.Joined.{joined, joined_onto}
-use Rattle.key_class.proofs.Coding.{none_some}
 use Rattle.node.specs.Nodes.{Entry, keys}
 use Rattle.node.proofs.Places.{count_is, here}
 use Rattle.node.proofs.memory.Node.union.Goals as goal
 
-some_there : {X Y : Type 0} (f : X → Y) (xs : List X) (i : ℕ) → i < length xs → None ≡ option_map f (slice_get xs i) → ⊥
-some_there f xs i l n = none_some (n ∙ ap (option_map f) (here xs i l).there)
-
-no-first : {K : Type 0} (G : Growing K) (es : List (Entry K ℕ)) → None ≡ option_map (λ e. e.key) (slice_get es 0) → None ≡ joined G (keys es)
-no-first G [] n = refl
-no-first G (e ∷ es) n = absurd (none_some n)
-
 first : {K : Type 0} (G : Growing K) (es : List (Entry K ℕ)) (k : K) → Some k ≡ option_map (λ e. e.key) (slice_get es 0) → Some (joined_onto G k (drop 1 (keys es))) ≡ joined G (keys es)
-first G [] k n = absurd (none_some (sym n))
+first G [] k n = cc
 first G (e ∷ es) k n = let same : k ≡ e.key = cc in ap (λ x. Some (joined_onto G x (keys es))) same
 
 -- One key more is joined.
 onto-more : {K : Type 0} (G : Growing K) (a k b : K) (es : List (Entry K ℕ)) (i : ℕ) → Some k ≡ option_map (λ e. e.key) (slice_get es i) → b ≡ G.union a k
     → joined_onto G b (drop (i + 1) (keys es)) ≡ joined_onto G a (drop i (keys es))
-onto-more G a k b [] i n u = absurd (none_some (sym n))
+onto-more G a k b [] i n u = cc
 onto-more G a k b (e ∷ es) zero n u = let same : k ≡ e.key = cc in ap (λ x. joined_onto G x (keys es)) (u ∙ ap (G.union a) same)
 onto-more G a k b (e ∷ es) (suc i) n u =
     let s : suc i + 1 ≡ suc (i + 1) = omega arith in
     ap (λ (m : ℕ). joined_onto G b (drop m (keys (e ∷ es)))) s ∙ onto-more G a k b es i n u
-
-pub returns-in_err-union : goal.returns-in_err-union
-returns-in_err-union g c = λ level es is. c.from_residual.ensures ∙ no-first g.K.Key.growing es (c.in_err-union.ensures level es is)
 
 pub loop-i-init : goal.loop-i-init
 loop-i-init g c = λ level es is. first g.K.Key.growing es c.in_ok-union.union (c.in_ok-union.ensures level es is)
@@ -39,7 +28,9 @@ loop-i-init g c = λ level es is. first g.K.Key.growing es c.in_ok-union.union (
 pub returns-in_err-key : goal.returns-in_err-key
 returns-in_err-key g c = λ level es is.
     let n = count_is g.K.Key.growing level es c.args.self.now.words is in
-    absurd (some_there (λ e. e.key) es c.loop-i.i (omega arith) (c.in_err-key.ensures level es is))
+    let there = ap (option_map (λ e. e.key)) (here es c.loop-i.i (omega arith)).there in
+    let none = c.in_err-key.ensures level es is in
+    cc
 
 pub loop-i-preserved : goal.loop-i-preserved
 loop-i-preserved g c = λ level es is.

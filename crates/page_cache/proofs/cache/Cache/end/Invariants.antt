@@ -1,12 +1,11 @@
 use Rattle.std.proofs.Common.{◌≡◌, ℕ, ◌<◌, false}
 use Rattle.page_cache.specs.Slots.{is_changed, slot_at}
-use Rattle.page_cache.specs.Cached.{cached, Rule}
+use Rattle.page_cache.specs.Cached.{cached}
 use Rattle.page_cache.proofs.cache.Cache.end.Given as goal
 
--- The slots below i are written.
-abbrev pub invariant-loop-i : goal.invariant-loop-i
-invariant-loop-i g l =
-    Rule g.S.PageStore.meaning g.S.PageStore.rule l.initial.self
-    → Rule g.S.PageStore.meaning g.S.PageStore.rule l.self
-    × (cached g.S.PageStore.meaning l.self ≡ cached g.S.PageStore.meaning l.initial.self)
-    × ((k : ℕ) → k < l.i → is_changed (slot_at l.self.table.slots k).state ≡ false)
+-- The slots up to this one are written.
+abbrev pub invariant-loop-number : goal.invariant-loop-number
+invariant-loop-number g l = record {
+  same : cached l.self ≡ cached l.initial.self;
+  written : (i : ℕ) → i < l.number-index → is_changed (slot_at l.self.table.slots i) ≡ false;
+}

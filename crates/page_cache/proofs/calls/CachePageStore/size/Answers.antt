@@ -3,4 +3,4 @@ use Rattle.page_cache.specs.Laws.{length_over}
 use Rattle.page_cache.proofs.calls.CachePageStore.size.Goals as goal
 
 pub returns : goal.returns
-returns g c = λ h. c.size.ensures h.0 ∙ sym (length_over _ _)
+returns g c = c.size.ensures ∙ sym (length_over _ _)

@@ -1,12 +1,8 @@
-use Rattle.std.proofs.Common.{refl}
-use Rattle.page_cache.proofs.Steps.{takes_over}
+use Rattle.page_cache.proofs.Answered.{takes_over}
 use Rattle.page_cache.proofs.calls.CachePageStore.take.Goals as goal
 
-pub returns : goal.returns
-returns g c = record {
-  takes = λ h.
-      let e = c.take.ensures h.0 in
-      let k = takes_over _ _ c.args.self.now.table.slots _ c.take.result h.1 e.1 in
-      ((e.0, k.0), k.1);
-  table = refl;
-}
+pub invariant_of-self : goal.invariant_of-self
+invariant_of-self g c = record { tied = (takes_over _ _ c.args.self.now.table.slots _ c.take.result c.args.self.now.tied c.take.ensures).0 }
+
+pub returns-clause-takes : goal.returns-clause-takes
+returns-clause-takes g c = (takes_over _ _ c.args.self.now.table.slots _ c.take.result c.args.self.now.tied c.take.ensures).1

@@ -1,90 +1,61 @@
-use Rattle.std.proofs.Common.{◌≡◌, ℕ, cond, List, set, is_some, is_ok, Some, Err, sym, refl, ap, ◌∙◌, subst, arith}
+use Rattle.std.proofs.Common.{◌≡◌, true, set, is_some, Some, ◌∙◌, ap, sym, refl, arith}
+use Rattle.std.proofs.lemmas.Bool.{true≢false}
 use Rattle.std.proofs.lemmas.Result.{err_from_is_err_and}
-use Rattle.std.proofs.lemmas.Bool.{both_ways, true≢false}
 use Rattle.page_store.specs.Pages.{Pages, at}
-use Rattle.page_store.proofs.Calling.{Held, read_ok, read_refused}
-use Rattle.page_cache.specs.declared.slot.Slot.{Slot}
-use Rattle.page_cache.specs.declared.slot.SlotState.TheVariants.{Changed}
+use Rattle.page_store.proofs.Calling.{Held, read_ok}
 use Rattle.page_cache.specs.Slots.{keeps, slot_at, kept_in}
-use Rattle.page_cache.specs.Policy.{slot, filled, replaced, by_slot, after_write}
-use Rattle.page_cache.specs.Over.{Tied}
-use Rattle.page_cache.specs.Cached.{places_in}
-use Rattle.page_cache.proofs.Firsts.{found, none_passes}
+use Rattle.page_cache.specs.Policy.{slot}
+use Rattle.page_cache.specs.Cached.{cached}
+use Rattle.page_cache.proofs.Slots.{first_none, first_keeps, no_other_keeps}
 use Rattle.page_cache.proofs.Laying.{held_over}
-use Rattle.page_cache.proofs.Slots.{no_other_keeps, keeps_only}
-use Rattle.page_cache.proofs.Steps.{view, view_answer, tied_same, placed, ok_over, changed_over, refused_over}
+use Rattle.page_cache.proofs.Ties.{tied_same, slot_held}
+use Rattle.page_cache.proofs.Steps.{Means, view, rewritten}
+use Rattle.page_cache.proofs.Answered.{writes_over, writes_refused}
 use Rattle.page_cache.proofs.calls.CachePageStore.write.Goals as goal
+use Rattle.page_cache.proofs.calls.CachePageStore.write.Given.{Over}
+use Rattle.page_cache.proofs.calls.CachePageStore.write.Goals.{In-Some, After-put, In_ok-read}
+
+kept : (g : Over) (c : In-Some g) → keeps c.args.page (slot_at c.args.self.now.table.slots c.in-Some.number.index) ≡ true
+kept g c = first_keeps c.args.self.now.table.slots c.args.page _ (sym c.in-Some.ensures)
+
+written : (g : Over) (c : After-put g) → Means (g.S.PageStore.meaning c.args.self.now.below) c.put.new.self.slots (set (cached c.args.self.now) c.args.page (Some c.args.words.now))
+written g c =
+    rewritten _ _ _ _ (slot c.args.page true c.args.words.now) c.args.self.now.tied (omega (arith, c.in-Some.number.within, c.args.self.now.table.four))
+    (kept g (goal.at.invariant_of-self g c).In-Some) refl (ap (λ t. t.slots) c.put.ensures) c.put.new.self.apart
+
+held : (g : Over) (c : In_ok-read g) → Held (g.S.PageStore.meaning c.args.self.now.below) c.args.page
+held g c = ap is_some (read_ok c.in_ok-read.ensures).words
 
 pub put-requires : goal.put-requires
 put-requires g c =
-    let hit = found (keeps c.args.page) c.args.self.now.table.slots c.in-Some.i (sym c.in-Some.ensures) in (
-      omega (arith, hit.within, c.args.self.now.table.four),
-      no_other_keeps c.args.self.now.table.slots c.in-Some.i c.args.page c.args.self.now.table.apart hit.passes,
-    )
+    no_other_keeps c.args.self.now.table.slots _ c.args.page c.args.self.now.table.apart (kept g (goal.at.put-requires g c).In-Some)
 
-pub returns-in-Some : goal.returns-in-Some
-returns-in-Some g c =
-    let s : Pages = g.S.PageStore.meaning c.args.self.now.below in
-    let ks : List Slot = c.args.self.now.table.slots in
-    let i : ℕ = c.in-Some.i in
-    let p : ℕ = c.args.page in
-    let k : Slot = slot p Changed c.args.words.now in
-    let hit = found (keeps p) ks i (sym c.in-Some.ensures) in
-    let e : c.put.new.self.slots ≡ set ks i k = ap (λ t. t.slots) c.put.ensures in
-    record {
-      writes = λ h.
-          let held : Held s p = (h.1 i p hit.passes).held in
-          let f = placed s ks i k c.args.self.now.table.apart hit.within h.1 refl
-          (no_other_keeps ks i p c.args.self.now.table.apart hit.passes)
-          (λ q ne g. absurd (both_ways _ (keeps_only (slot_at ks i) p q hit.passes ne) g))
-          (record { held = held; same = λ u. absurd (true≢false u) }) in (
-            (h.0, subst (Tied s) (sym e) f.0),
-            record { answers = ok_over s ks p held; pages = changed_over s _ ks p (Some c.args.words.now) held (ap (view s) e ∙ f.1) },
-          );
-      table = c.put.ensures ∙ ap (λ o. by_slot o (λ j. replaced (places_in c.args.self.now) j k) (filled (places_in c.args.self.now) k)) c.in-Some.ensures;
-    }
+pub invariant_of-self : goal.invariant_of-self
+invariant_of-self g c = record { tied = (written g c).tied }
 
-pub returns-in_err-read : goal.returns-in_err-read
-returns-in_err-read g c =
+pub returns-in-Some-clause-writes : goal.returns-in-Some-clause-writes
+returns-in-Some-clause-writes g c =
+    let here = goal.at.returns-in-Some-clause-writes g c in
+    writes_over _ _ c.args.self.now.table.slots _ _ (slot_held _ c.args.self.now.table.slots _ _ c.args.self.now.tied (kept g here.In-Some)) (written g here.After-put).pages
+
+pub invariant_of-self-2 : goal.invariant_of-self-2
+invariant_of-self-2 g c = record { tied = tied_same _ _ _ c.read.ensures.pages c.args.self.now.tied }
+
+pub returns-in_err-read-clause-writes : goal.returns-in_err-read-clause-writes
+returns-in_err-read-clause-writes g c =
     let p = err_from_is_err_and c.from_residual.result c.from_residual.ensures.1 in
-    let e : c.from_residual.result ≡ Err c.in_err-read.field-0.0 = p.1 ∙ ap Err p.2 in
-    let s : Pages = g.S.PageStore.meaning c.args.self.now.below in
-    let t : Pages = g.S.PageStore.meaning c.read.new.self in
-    let ks : List Slot = c.args.self.now.table.slots in
-    record {
-      writes = λ h.
-          let r = c.in_err-read.ensures h.0 in (
-            (r.0, tied_same s t ks r.1.pages h.1),
-            record {
-              answers = e ∙ r.1.answers ∙ sym (view_answer s ks c.args.page);
-              pages = refused_over s t ks c.args.page (Some c.args.words.now) (read_refused r.1).0;
-            },
-          );
-      table = sym (ap (λ r. cond (is_ok r) (after_write (places_in c.args.self.now) c.args.page c.args.words.now) (places_in c.args.self.now)) e);
-    }
+    rw (p.1, p.2) (writes_refused _ _ c.args.self.now.table.slots _ _ _ _ _ c.in_err-read.ensures)
 
 pub keep-requires : goal.keep-requires
-keep-requires g c = (refl, none_passes (keeps c.args.page) c.args.self.now.table.slots refl (sym c.in_default.ensures))
+keep-requires g c = record {
+  unkept = first_none c.args.self.now.table.slots c.args.page (sym c.in_default.ensures);
+  fair = record {
+    held = held_over _ (kept_in c.args.self.now.table.slots) _ ∙ ap (λ (s : Pages). is_some (at s c.args.page)) c.in_ok-read.ensures.pages ∙ held g (goal.at.keep-requires g c).In_ok-read;
+    same = λ e. absurd (true≢false e);
+  };
+}
 
-pub returns : goal.returns
-returns g c =
-    let s : Pages = g.S.PageStore.meaning c.args.self.now.below in
-    let t : Pages = g.S.PageStore.meaning c.read.new.self in
-    let ks : List Slot = c.args.self.now.table.slots in
-    let p : ℕ = c.args.page in
-    let k : Slot = slot p Changed c.args.words.now in
-    record {
-      writes = λ h.
-          let r = c.in_ok-read.ensures h.0 in
-          let held : Held s p = ap is_some (read_ok r.1).words in
-          let same : view t ks ≡ view s ks = ap (λ (x : Pages). view x ks) r.1.pages in
-          let f = c.keep.ensures.rule (r.0, tied_same s t ks r.1.pages h.1)
-          (record { held = ap (λ (x : Pages). is_some (at x p)) same ∙ held_over s (kept_in ks) p ∙ held; same = λ u. absurd (true≢false u) }) in (
-            f.0,
-            record {
-              answers = ok_over s ks p held;
-              pages = changed_over s _ ks p (Some c.args.words.now) held (f.1 ∙ ap (λ (x : Pages). set x p (Some c.args.words.now)) same);
-            },
-          );
-      table = c.keep.ensures.table ∙ ap (λ o. by_slot o (λ j. replaced (places_in c.args.self.now) j k) (filled (places_in c.args.self.now) k)) c.in_default.ensures;
-    }
+pub returns-clause-writes : goal.returns-clause-writes
+returns-clause-writes g c =
+    writes_over _ _ c.args.self.now.table.slots _ _ (held g (goal.at.returns-clause-writes g c).In_ok-read)
+    (c.keep.ensures.pages ∙ ap (λ (s : Pages). set (view s c.args.self.now.table.slots) c.args.page (Some c.args.words.now)) c.in_ok-read.ensures.pages)

@@ -1,10 +1,5 @@
-use Rattle.std.proofs.Common.{Decides, sym, subst}
-use Rattle.rectangles.specs.Points.{Contains}
 use Rattle.rectangles.proofs.Points.{covers_points}
 use Rattle.rectangles.proofs.class.RectangleKeyClass.covers.Goals as goal
 
-pub returns : goal.returns
-returns c = record {
-  value = c.contains.ensures;
-  points = subst (λ t. Decides t (Contains c.args.self.now c.args.other.now)) (sym c.contains.ensures) (covers_points c.args.self.now c.args.other.now);
-}
+pub returns-clause-points : goal.returns-clause-points
+returns-clause-points c = rw c.contains.ensures (covers_points c.args.self.now c.args.other.now)

@@ -1,15 +1,8 @@
-use Rattle.std.proofs.Common.{◌≡◌, refl, rules}
-use Rattle.rectangles.specs.Rectangles.{matches}
-use Rattle.rectangles.proofs.Points.{matched}
+use Rattle.rectangles.proofs.Points.{covers_points, meets_points}
 use Rattle.rectangles.proofs.class.RectangleKeyClass.matches.Goals as goal
 
-pub returns-in-Meets : goal.returns-in-Meets
-returns-in-Meets c = matched c.args.self.now c.args.query.now _ c.meets.result c.in-Meets.is c.meets.ensures
+pub returns-in-Meets-clause-points : goal.returns-in-Meets-clause-points
+returns-in-Meets-clause-points c = rw (c.meets.ensures, c.in-Meets.is) (meets_points c.args.self.now c.in-Meets.q)
 
-pub returns-in-Inside : goal.returns-in-Inside
-returns-in-Inside c = matched c.args.self.now c.args.query.now _ c.contains.result c.in-Inside.is c.contains.ensures
-
-pub returns-in-HoldsPoint : goal.returns-in-HoldsPoint
-returns-in-HoldsPoint c =
-    let v : c.holds_point.result ≡ matches c.args.self.now c.args.query.now = search rules in
-    matched c.args.self.now c.args.query.now c.args.query.now c.holds_point.result refl v
+pub returns-in-Inside-clause-points : goal.returns-in-Inside-clause-points
+returns-in-Inside-clause-points c = rw (c.contains.ensures, c.in-Inside.is) (covers_points c.in-Inside.q c.args.self.now)

@@ -1,6 +1,0 @@
-use Rattle.std.proofs.Common.{sym}
-use Rattle.member_sets.specs.Reading.{read_made}
-use Rattle.member_sets.proofs.key.SetKey.from_words.Goals as goal
-
-pub returns : goal.returns
-returns c = sym (read_made _ _ c.from_words-members.ensures)
