@@ -28,6 +28,8 @@ fn share_out<K: KeyClass, S: PageStore>(
     })
 }
 
+// Page and node are apart here, since the node is taken apart at once: its entries go to one page or two.
+
 // Writes a node with one entry more to its page, or to its page and a new one; none where the pages form no tree.
 pub(crate) fn add<K: KeyClass, S: PageStore>(
     store: &mut S,

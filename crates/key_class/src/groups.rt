@@ -29,7 +29,7 @@ pub(crate) struct Groups<K> {
 
 impl Seeds {
     /// The worse of the two, and of two that are as bad the first.
-    pub fn worse(self, later: Seeds) -> Seeds
+    pub(crate) fn worse(self, later: Seeds) -> Seeds
         ensures { result ≡ worse self later }
     {
         if later.growth > self.growth {
@@ -52,7 +52,7 @@ impl<K: Key> Group<K> {
 
 impl<K: Key> Groups<K> {
     /// The groups of `n` keys as two seeds begin them.
-    pub fn new(stay: K, go: K, n: usize) -> Groups<K>
+    pub(crate) fn new(stay: K, go: K, n: usize) -> Groups<K>
         requires { 2 ≤ n }
         ensures { result ≡ begun stay go n }
     {
@@ -86,7 +86,7 @@ impl<K: Key> Groups<K> {
     }
 
     /// Puts the next key into its group, and tells whether it goes.
-    pub fn place(&mut self, key: &K) -> bool
+    pub(crate) fn place(&mut self, key: &K) -> bool
         requires few { size self.old ≤ 15 }
         requires some { 0 < self.old.left }
         ensures goes { result ≡ goes_next K.growing self.old key.now }

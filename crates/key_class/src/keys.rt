@@ -24,7 +24,7 @@ impl<'a, K: Key> Model for Keys<'a, K> {
 
 impl<'a, K: Key> Keys<'a, K> {
     /// None where the words at some place are no key's.
-    pub fn new(words: &'a [[u32; 4]]) -> Option<Keys<'a, K>>
+    pub(crate) fn new(words: &'a [[u32; 4]]) -> Option<Keys<'a, K>>
         ensures some { IsSome result ↔ AllKeys K.growing words.now }
         ensures keys { IfSome result (λ ks. ks ≡ keys_of K.growing words.now) }
     {
@@ -38,13 +38,13 @@ impl<'a, K: Key> Keys<'a, K> {
         }
     }
 
-    pub fn len(&self) -> usize
+    pub(crate) fn len(&self) -> usize
         ensures { result ≡ length self.now }
     {
         self.words.len()
     }
 
-    pub fn at(&self, i: usize) -> K
+    pub(crate) fn at(&self, i: usize) -> K
         requires { i < length self.now }
         ensures { slice_get self.now i ≡ Some result }
     {

@@ -6,6 +6,8 @@ use node::{Entry, Node, Pool};
 use page_store::PageStore;
 use tree_pages::{least_growth, load};
 
+// Partner and child go together through two steps that share no more than that.
+
 // Puts the entries of the child behind those of its partner, on the partner's page, and gives the page of the child back.
 fn merge<K: KeyClass, S: PageStore>(
     store: &mut S,

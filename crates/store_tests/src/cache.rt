@@ -1,3 +1,4 @@
+use crate::pile::tested_through_a_pile;
 use array_store::ArrayStore;
 use page_cache::Cache;
 use page_store::{PageStore, StoreRefusal};
@@ -56,6 +57,17 @@ fn a_pile_of_three_is_a_store(rt: HostRuntime) -> Result<(), Fail> {
     assert_eq!(rt; first, Ok((100, 100)));
     assert_eq!(rt; ends_of(&mut store, 0), Ok((100, 100)));
     assert_eq!(rt; ends_of(&mut store, 4), Ok((104, 104)));
+    Ok(())
+}
+
+#[test]
+fn a_self_test_through_a_pile_leaves_no_trace(rt: HostRuntime) -> Result<(), Fail> {
+    let mut store = memory_of(&rt, 1)?;
+    fill(&mut store, 1)?;
+    let mut store = tested_through_a_pile(store);
+    assert_eq!(rt; ends_of(&mut store, 0), Ok((100, 100)));
+    let store = tested_through_a_pile(memory_of(&rt, 1)?);
+    assert_eq!(rt; store.free_count(), 1);
     Ok(())
 }
 

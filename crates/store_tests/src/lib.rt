@@ -5,3 +5,6 @@
 mod array;
 #[cfg(test)]
 mod cache;
+mod pile;
+
+pub use pile::tested_through_a_pile;

@@ -8,6 +8,9 @@ use key_class::Key;
 use node::Node;
 use page_store::PageStore;
 
+// The store is lent for each call: a struct that held it would be made and taken apart in each. That no page changes is said
+// by each call that changes none.
+
 /// The node on a page; none where the page is not held, or has more than 12 entries.
 pub fn load<S: PageStore>(store: &mut S, page: u32) -> Option<Node>
     ensures kept { S.meaning store.new ≡ S.meaning store.old }
