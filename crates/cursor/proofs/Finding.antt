@@ -25,7 +25,7 @@ abbrev pub EntryRead : {K : Type 0} → Growing K → Node → ℕ → Option (E
 EntryRead {K} G n i r = (level : ℕ) (es : List (Entry K ℕ)) → Stands G n level es → r ≡ slice_get es i
 
 -- The entry at place p stands as e on its page: what p gives is what this entry gives, and what the places after it give.
-record Passed {K Q : Type 0} (C : Class K Q) (s : Pages) (q : Q) (e : Entry K ℕ) (h : ℕ) (p : Place) (ps : List Place) (todo : List (Entry K ℕ)) : Type 0 where
+pub record Passed {K Q : Type 0} (C : Class K Q) (s : Pages) (q : Q) (e : Entry K ℕ) (h : ℕ) (p : Place) (ps : List Place) (todo : List (Entry K ℕ)) : Type 0 where
   pub tree : Tree K h
   pub lies : Lies C.growing s h tree
   pub it : Entry K (Link K h)

@@ -27,6 +27,7 @@ impl<K: KeyClass, S: PageStore> Index<K, S> {
 
 impl<K: KeyClass, S: PageStore> Search<K, S> {
     /// The next record that matches; none, for ever, when there is none left.
+    #[tactic(auto, using(crate::proofs::Standing::stands_still))]
     pub fn next(&mut self) -> Option<Found<K>>
         ensures kept { S.meaning (store_in (index_in self.new)) ≡ S.meaning (store_in (index_in self.old)) }
         ensures same { (shape_in (index_in self.new) ≡ shape_in (index_in self.old)) × (query_in self.new ≡ query_in self.old) }

@@ -10,14 +10,14 @@ use Rattle.intervals.specs.Intervals.{split}
 use Rattle.intervals.specs.Ranks.{ranks_from, by_rank}
 
 -- A test as a number.
-abbrev one : Bool → ℕ
+abbrev pub one : Bool → ℕ
 one b = if b then 1 else 0
 
-leb_one : (a b : ℕ) → ((one (nat_le a b) ≡ 1) × (a ≤ b)) ⊎ ((one (nat_le a b) ≡ 0) × (b < a))
+pub leb_one : (a b : ℕ) → ((one (nat_le a b) ≡ 1) × (a ≤ b)) ⊎ ((one (nat_le a b) ≡ 0) × (b < a))
 leb_one a b = elim (leb_tells a b) [ inl h ↦ inl (ap one h.0, h.1) | inr h ↦ inr (ap one h.0, h.1) ]
 
 -- How many numbers are below x, and how many are at most x.
-abbrev below : ℕ → List ℕ → ℕ
+abbrev pub below : ℕ → List ℕ → ℕ
 below x ys = count_by (λ y. nat_lt y x) ys
 
 abbrev at_most : ℕ → List ℕ → ℕ
@@ -26,8 +26,11 @@ at_most x ys = count_by (λ y. nat_le y x) ys
 below_cons : (x y : ℕ) (ys : List ℕ) → below x (y ∷ ys) ≡ one (nat_lt y x) + below x ys
 below_cons x y ys = sum_by-cons (λ z. one (nat_lt z x)) y ys
 
-below_push : (x : ℕ) (ys : List ℕ) (y : ℕ) → below x (ys ++ y ∷ []) ≡ below x ys + one (nat_lt y x)
+pub below_push : (x : ℕ) (ys : List ℕ) (y : ℕ) → below x (ys ++ y ∷ []) ≡ below x ys + one (nat_lt y x)
 below_push x ys y = sum_by_push (λ z. one (nat_lt z x)) ys y
+
+below_most : (x : ℕ) (zs : List ℕ) → below x zs ≤ length zs
+below_most x zs = count_by-le-length (λ z. nat_lt z x) zs
 
 below_mono : (x y : ℕ) → x ≤ y → (zs : List ℕ) → below x zs ≤ below y zs
 below_mono x y h zs = sum_by-le-sum_by (λ z. one (nat_lt z x)) (λ z. one (nat_lt z y)) zs (λ z. let p = leb_one (suc z) x in let q = leb_one (suc z) y in omega arith)
@@ -37,6 +40,10 @@ at_most_is x ys =
     let e : (y : ℕ) → nat_le y x ≡ nat_lt y (x + 1) = λ y. grind (arith, nat_tests) in
     λ i. count_by (λ y. e y i) ys
 
+-- How many ranks are below m.
+abbrev under : ℕ → List ℕ → ℕ
+under m rs = below m rs
+
 -- What one number x more among those seen does to the ranks of the rest.
 module _ (x : ℕ) where
   abbrev More : List ℕ → List ℕ → Type 0
@@ -45,7 +52,7 @@ module _ (x : ℕ) where
   more_push : (t s : List ℕ) (y : ℕ) → More t s → More (t ++ y ∷ []) (s ++ y ∷ [])
   more_push t s y more z = let e = more z in let p = below_push z s y in let q = below_push z t y in omega arith
 
-  under_low : (m : ℕ) (t s : List ℕ) → More t s → (xs : List ℕ) → m ≤ below x s + below x xs → below m (ranks_from t xs) ≡ below m (ranks_from s xs)
+  under_low : (m : ℕ) (t s : List ℕ) → More t s → (xs : List ℕ) → m ≤ below x s + below x xs → under m (ranks_from t xs) ≡ under m (ranks_from s xs)
   under_low m t s more [] h = refl
   under_low m t s more (y ∷ ys) h =
       let b = below_push x s y in
@@ -65,7 +72,7 @@ module _ (x : ℕ) where
       ] in
       below_cons m (at_most y t + below y ys) (ranks_from (t ++ y ∷ []) ys) ∙ ap₂ ◌+◌ f ih ∙ sym (below_cons m (at_most y s + below y ys) (ranks_from (s ++ y ∷ []) ys))
 
-  under_high : (m : ℕ) (t s : List ℕ) → More t s → (xs : List ℕ) → below x s + below x xs ≤ m → below (suc m) (ranks_from t xs) ≡ below m (ranks_from s xs)
+  under_high : (m : ℕ) (t s : List ℕ) → More t s → (xs : List ℕ) → below x s + below x xs ≤ m → under (suc m) (ranks_from t xs) ≡ under m (ranks_from s xs)
   under_high m t s more [] h = refl
   under_high m t s more (y ∷ ys) h =
       let b = below_push x s y in
@@ -86,7 +93,7 @@ module _ (x : ℕ) where
       below_cons (suc m) (at_most y t + below y ys) (ranks_from (t ++ y ∷ []) ys) ∙ ap₂ ◌+◌ f ih ∙ sym (below_cons m (at_most y s + below y ys) (ranks_from (s ++ y ∷ []) ys))
 
 -- m of the ranks are below m.
-under_is : (m : ℕ) (xs : List ℕ) → below m (ranks_from [] xs) ≡ min m (length xs)
+under_is : (m : ℕ) (xs : List ℕ) → under m (ranks_from [] xs) ≡ min m (length xs)
 under_is m [] = omega arith
 under_is zero (x ∷ xs) =
     let l = under_low x zero (x ∷ []) [] (λ z. below_cons z x []) xs (omega arith) in
@@ -95,7 +102,7 @@ under_is zero (x ∷ xs) =
     let c = below_cons zero (0 + below x xs) (ranks_from (x ∷ []) xs) in
     omega arith
 under_is (suc m) (x ∷ xs) =
-    let n = count_by-le-length (λ y. nat_lt y x) xs in
+    let n = below_most x xs in
     let t = leb_one (suc (0 + below x xs)) (suc m) in
     let c = below_cons (suc m) (0 + below x xs) (ranks_from (x ∷ []) xs) in
     let ih = under_is m xs in
@@ -113,7 +120,7 @@ staying_cons : (t : Bool) (bs : List Bool) → staying (t ∷ bs) + one t ≡ 1 
 staying_cons true bs = omega arith
 staying_cons false bs = omega arith
 
-staying_under : (h : ℕ) (rs : List ℕ) → staying (map (nat_le h) rs) ≡ below h rs
+staying_under : (h : ℕ) (rs : List ℕ) → staying (map (nat_le h) rs) ≡ under h rs
 staying_under h [] = refl
 staying_under h (r ∷ rs) =
     let ih = staying_under h rs in

@@ -8,9 +8,18 @@ fn rank(words: &[[u32; 4]], i: usize) -> usize
         result ≡ count_by (λ w. nat_le (slice_index w 0) low) (take i words.now) + count_by (λ w. nat_lt (slice_index w 0) low) (drop (i + 1) words.now) }
 {
     let low = words[i][0];
-    let earlier = words[..i].iter().filter(|w| w[0] <= low).count();
-    let later = words[i + 1..].iter().filter(|w| w[0] < low).count();
-    earlier + later
+    let mut rank = 0;
+    for earlier in &words[..i] {
+        if earlier[0] <= low {
+            rank += 1;
+        }
+    }
+    for later in &words[i + 1..] {
+        if later[0] < low {
+            rank += 1;
+        }
+    }
+    rank
 }
 
 // Which of at most 15 keys go: those whose low end is not in the lower half by rank.

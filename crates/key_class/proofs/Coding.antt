@@ -47,7 +47,7 @@ pub drop_at : {X : Type 0} (xs : List X) (i : ℕ) (x : X) → slice_get xs i �
 drop_at xs i x e = drop_more xs i x (slice_get_within xs i x e) ∙ ap (λ y. y ∷ drop (i + 1) xs) (get_or_from_slice_get xs i x x e)
 
 -- The words of keys are all keys', and those keys'.
-squeezed_keys : {K : Type 0} {G : Growing K} (C : Coded G) (ks : List K) → AllKeys G (map G.squeeze ks)
+pub squeezed_keys : {K : Type 0} {G : Growing K} (C : Coded G) (ks : List K) → AllKeys G (map G.squeeze ks)
 squeezed_keys C [] = tt
 squeezed_keys C (k ∷ ks) = (ap is_some (C.round_trip k), squeezed_keys C ks)
 

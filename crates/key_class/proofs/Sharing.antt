@@ -15,12 +15,12 @@ worse_within : (n : ℕ) (s t : Seeds) (b : Bool) → Within n s → Within n t 
 worse_within n s t true h k = k
 worse_within n s t false h k = h
 
-after_within : {K : Type 0} (G : Growing K) (a : K) (n i j : ℕ) (ks : List K) (s : Seeds) → i < j → j + length ks ≡ n → Within n s → Within n (worst_after G a i j ks s)
+pub after_within : {K : Type 0} (G : Growing K) (a : K) (n i j : ℕ) (ks : List K) (s : Seeds) → i < j → j + length ks ≡ n → Within n s → Within n (worst_after G a i j ks s)
 after_within G a n i j [] s l e h = h
 after_within G a n i j (k ∷ ks) s l e h =
     after_within G a n i (j + 1) ks _ (omega arith) (omega arith) (worse_within n s _ (ltb s.growth (larger_growth G a k)) h (record { ordered = l; below = omega arith }))
 
-from_within : {K : Type 0} (G : Growing K) (n i : ℕ) (ks : List K) (s : Seeds) → i + length ks ≡ n → Within n s → Within n (worst_from G i ks s)
+pub from_within : {K : Type 0} (G : Growing K) (n i : ℕ) (ks : List K) (s : Seeds) → i + length ks ≡ n → Within n s → Within n (worst_from G i ks s)
 from_within G n i [] s e h = h
 from_within G n i (a ∷ ks) s e h = from_within G n (i + 1) ks _ (omega arith) (after_within G a n i (i + 1) ks s (omega arith) (omega arith) h)
 

@@ -1,5 +1,5 @@
 -- The loops of the quadratic split, one turn on.
-use Rattle.std.proofs.Common.{◌≡◌, ◌≢◌, ℕ, ◌+◌, ◌<◌, ◌≤◌, Bool, true, false, ◌⊎◌, ◌==◌, List, [], ◌∷◌, ◌++◌, length, get_or, take, drop, set, replicate, slice_get, Some, IfSome, inl, inr, sym, refl, ap, ap₂, ◌∙◌, subst, arith, append-nil, length-set, length-take-le, get_or-set_other, get_or-set_same, get_or-take, take_all, take_at}
+use Rattle.std.proofs.Common.{◌≡◌, ◌≢◌, ℕ, ◌+◌, ◌-◌, ◌<◌, ◌≤◌, Bool, true, false, ◌⊎◌, ◌==◌, List, [], ◌∷◌, ◌++◌, length, get_or, take, drop, set, replicate, slice_get, Some, IfSome, inl, inr, sym, refl, ap, ap₂, ◌∙◌, subst, arith, append-nil, length-set, length-take-le, get_or-set_other, get_or-set_same, get_or-take, take_all, take_at}
 use Rattle.std.proofs.lemmas.List.{take_more, take_more_set, append_assoc, get_or-replicate, at_drop_all}
 use Rattle.std.proofs.lemmas.Option.{slice_get_cases, MatchOption-at_some, slice_get_within, slice_get-get_or, get_or_from_slice_get}
 use Rattle.std.proofs.lemmas.Bool.Decides.{eqb_tells, nat_tests}
@@ -82,14 +82,19 @@ module _ {K : Type 0} (G : Growing K) where
         marked_on p g g' marks (set marks p b) k b m at (e ∙ t.0) (f ∙ ap (placed G g k) e ∙ t.1) (length-set marks p b ∙ long)
         (take_more_set marks p b (omega arith)) (λ q h. let d : q ≢ p = omega arith in get_or-set_other marks p q b false d)
 
-    pub marked_begin : (a b : K) → length ks ≤ 15 → slice_get ks s.first ≡ Some a → slice_get ks s.second ≡ Some b → s ≡ seeds_of G ks
-        → Marked s ks 0 (begun a b (length ks)) (take (length ks) (set (replicate 15 false) s.second true))
-    marked_begin a b m at to e = record {
-      long = length-take-le (length ks) (set (replicate 15 false) s.second true) (omega (arith, length-set (replicate 15 false) s.second true));
-      fair = fair_begun G s (length ks) w.0 w.1 a b;
-      rest = λ q h l. one_true (length ks) s.second q m w.1 l;
-      so_far = begin ks a b at to e;
-    }
+    -- The groups begin with the seeds.
+    pub marked_begin : (g : Groups K) → g.stay.count ≡ 1 → g.go.count ≡ 1 → g.left ≡ length ks - 2 → slice_get ks s.first ≡ Some g.stay.union → slice_get ks s.second ≡ Some g.go.union
+        → length ks ≤ 15 → s ≡ seeds_of G ks → Marked s ks 0 g (take (length ks) (set (replicate 15 false) s.second true))
+    marked_begin g one other rest at to m e =
+        let a = g.stay.union in
+        let b = g.go.union in
+        let f : begun a b (length ks) ≡ g = λ i. record { stay = record { union = a; count = sym one i }; go = record { union = b; count = sym other i }; left = sym rest i } in
+        subst (λ h. Marked s ks 0 h (take (length ks) (set (replicate 15 false) s.second true))) f (record {
+          long = length-take-le (length ks) (set (replicate 15 false) s.second true) (omega (arith, length-set (replicate 15 false) s.second true));
+          fair = fair_begun G s (length ks) w.0 w.1 a b;
+          rest = λ q h l. one_true (length ks) s.second q m w.1 l;
+          so_far = begin ks a b at to e;
+        })
 
     pub marked_end : (p : ℕ) (g : Groups K) (marks more : List Bool) → length ks ≤ p → p ≤ length ks → Marked s ks p g marks → take (length ks) (marks ++ more) ≡ quadratic G ks
     marked_end p g marks more l h m =

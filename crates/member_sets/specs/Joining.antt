@@ -1,10 +1,10 @@
 -- A union of sets has the members of both, so it has one where the first has: what it takes to state the union of keys.
-use Rattle.std.specs.Prelude.{◌≡◌, ℕ, zero, suc, ◌/◌, ◌%◌, true, ◌||◌, List, [], ◌∷◌, refl}
-use Rattle.std.proofs.Common.{ap, ◌∙◌}
+use Rattle.std.specs.Prelude.{◌≡◌, ℕ, zero, suc, ◌/◌, ◌%◌, Bool, true, ◌||◌, List, [], ◌∷◌, refl}
+use Rattle.std.proofs.Common.{ap, ◌∙◌, ⊎_elim}
 use Rattle.std.specs.Int.Bits.{bit_or}
-use Rattle.std.proofs.lemmas.Bool.{or_left}
+use Rattle.std.proofs.lemmas.Bool.{or_cases, or_left, or_right}
 use Rattle.member_sets.specs.declared.members.Members.{Members}
-use Rattle.member_sets.specs.Members.{bit, word, member, has_member}
+use Rattle.member_sets.specs.Members.{bit, word, member, some_below, has_member}
 use Rattle.member_sets.specs.Below.{some_tells}
 use Rattle.member_sets.specs.BitLaws.{bit-bit_or}
 
@@ -27,6 +27,12 @@ word_either a b (suc (suc (suc (suc j)))) = refl
 pub member_either : (a b : Members) (k : ℕ) → member (either a b) k ≡ (member a k || member b k)
 unfolding member
 member_either a b k = ap (λ n. bit n (k % 32)) (word_either a b (k / 32)) ∙ bit-bit_or (word a (k / 32)) (word b (k / 32)) (k % 32)
+
+-- Where h passes what f or g does, it passes some number if f does.
+some_or : (n : ℕ) (f g h : ℕ → Bool) → ((k : ℕ) → h k ≡ (f k || g k)) → some_below n f ≡ true → some_below n h ≡ true
+unfolding some_below
+some_or zero f g h each e = e
+some_or (suc n) f g h each e = ⊎_elim (λ x. or_left (h n) (some_below n h) (each n ∙ or_left (f n) (g n) x)) (λ x. or_right (h n) (some_below n h) (some_or n f g h each x)) (or_cases (f n) (some_below n f) e)
 
 pub either_some : (a b : Members) → has_member a ≡ true → has_member (either a b) ≡ true
 either_some a b h =

@@ -1,15 +1,40 @@
 -- The words of a node after an entry is written, put behind the others or taken out.
-use Rattle.std.proofs.Common.{◌≡◌, ℕ, suc, ◌+◌, ◌-◌, ◌*◌, ◌<◌, ◌≤◌, Bool, true, false, cond, ltb, List, [], ◌∷◌, ◌++◌, length, take, drop, set, replicate, sym, ap, ◌∙◌, append_assoc, append-nil, arith, length-append}
+use Rattle.std.proofs.Common.{◌≡◌, ℕ, suc, ◌+◌, ◌-◌, ◌*◌, ◌<◌, ◌≤◌, Bool, true, false, cond, ltb, List, [], ◌∷◌, ◌++◌, length, get_or, take, drop, set, replicate, sym, ap, ◌∙◌, append_assoc, append-nil, arith, length-append}
+use borrow.Rule.Slice.PartMut.{put_mid}
 use Rattle.std.specs.List.{copy_within, flat_map}
 use Rattle.std.proofs.lemmas.List.Edits.{length-remove}
 use Rattle.std.proofs.lemmas.Option.{slice_get_within, get_or_from_slice_get}
 use Rattle.std.proofs.lemmas.Bool.{lt-ltb}
-use Rattle.std.proofs.lemmas.List.{take_all, take_at, drop_all, drop-drop, drop-replicate, length-drop, length_push, length-set, length-take-le, take_more, set_split, replicate-append-replicate}
+use Rattle.std.proofs.lemmas.List.{take_all, take_at, drop_all, drop-drop, drop_more, drop-replicate, length-drop, length_push, length-set, length-take-le, take_more, set-append_right, set_split, replicate-append-replicate}
 use Rattle.key_class.specs.Class.{Growing, Coded}
 use Rattle.node.specs.Nodes.{Entry, entry_words, node_words, without}
 use Rattle.node.specs.Reading.{count_in}
 use Rattle.node.specs.InMemory.{with_row, pushed_row}
 use Rattle.node.proofs.Places.{EntryAt, zeros, laid, front, node_laid, laid_append, count_is, words_before, words_from}
+
+-- The first four words of a row are copied to place i, and its last word is written behind them.
+pub put_words : (w part row : List ℕ) (i : ℕ) → length w ≡ 64 → length row ≡ 5 → part ≡ take 4 row → i < 12
+    → set (put_mid (4 + 5 * i) (4 + 5 * i + 5 - 1 - (4 + 5 * i)) w part) (4 + 5 * i + 5 - 1) (get_or row 4 0) ≡ with_row w i row
+put_words w part row i long five same low =
+    let a : ℕ = 4 + 5 * i in
+    let link : ℕ = get_or row 4 0 in
+    let size : length (take a w) ≡ a = length-take-le a w (omega arith) in
+    let back : a + 5 - 1 - a ≡ 4 = omega arith in
+    let four : a + 4 - a ≡ 4 = omega arith in
+    let last : a + 5 - 1 ≡ a + 4 = omega arith in
+    let nine : a + 4 + 1 ≡ 9 + 5 * i = omega arith in
+    let rest : drop 4 (drop a w) ≡ get_or w (a + 4) 0 ∷ drop (9 + 5 * i) w =
+    drop-drop 4 a w ∙ drop_more w (a + 4) 0 (omega arith) ∙ ap (λ (n : ℕ). get_or w (a + 4) 0 ∷ drop n w) nine in
+    let whole : take 4 row ++ link ∷ [] ≡ row = sym (take_more row 4 0 (omega arith)) ∙ take_all 5 row (omega arith) in
+    ap (λ (v : List ℕ). set (put_mid a (a + 5 - 1 - a) w v) (a + 5 - 1) link) same
+    ∙ ap (λ (n : ℕ). set (put_mid a n w (take 4 row)) (a + 5 - 1) link) back
+    ∙ ap (λ (n : ℕ). set (put_mid a 4 w (take 4 row)) n link) last
+    ∙ set-append_right (take a w) (take 4 row ++ drop 4 (drop a w)) a (a + 4) link size (omega arith)
+    ∙ ap (λ (n : ℕ). take a w ++ set (take 4 row ++ drop 4 (drop a w)) n link) four
+    ∙ ap (λ l. take a w ++ l) (set-append_right (take 4 row) (drop 4 (drop a w)) 4 4 link (length-take-le 4 row (omega arith)) (omega arith))
+    ∙ ap (λ (l : List ℕ). take a w ++ (take 4 row ++ set l 0 link)) rest
+    ∙ ap (λ l. take a w ++ l) (sym (append_assoc (take 4 row) (link ∷ []) (drop (9 + 5 * i) w)))
+    ∙ ap (λ l. take a w ++ (l ++ drop (9 + 5 * i) w)) whole
 
 -- The words from entry i + 1 on are copied to entry i, and zeros come behind them.
 closed : (w : List ℕ) (i : ℕ) → length w ≡ 64 → i < 12

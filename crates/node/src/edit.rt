@@ -20,7 +20,9 @@ impl Node {
         ensures { words_in self.new ≡ with_row (words_in self.old) i row.now }
     {
         let at = start(i);
-        self.words[at..at + ROW].copy_from_slice(row);
+        // In two parts: a copy of five words is made by way of the stack.
+        self.words[at..at + ROW - 1].copy_from_slice(&key_words(*row));
+        self.words[at + ROW - 1] = row[ROW - 1];
     }
 
     // Puts the words of an entry behind the others; false where there are twelve, and nothing changes.

@@ -17,10 +17,10 @@ use Rattle.page_cache.proofs.Steps.{view}
 answer_over : (s : Pages) (ks : Slots) (p : ℕ) → answer (view s ks) p ≡ answer s p
 answer_over s ks p = answer_same s (view s ks) p (length_over s (kept_in ks)) (held_over s (kept_in ks) p)
 
-ok_over : (s : Pages) (ks : Slots) (p : ℕ) → Held s p → Ok tt ≡ answer (view s ks) p
+pub ok_over : (s : Pages) (ks : Slots) (p : ℕ) → Held s p → Ok tt ≡ answer (view s ks) p
 ok_over s ks p h = sym (answer_over s ks p ∙ answer_held s p h)
 
-changed_over : (s u : Pages) (ks : Slots) (p : ℕ) (x : Option Words) → Held s p → u ≡ slice_set (view s ks) p x → u ≡ changed (view s ks) p x
+pub changed_over : (s u : Pages) (ks : Slots) (p : ℕ) (x : Option Words) → Held s p → u ≡ slice_set (view s ks) p x → u ≡ changed (view s ks) p x
 changed_over s u ks p x h e = e ∙ sym (changed_held (view s ks) p x (held_over s (kept_in ks) p ∙ h))
 
 unchanged_over : (s t : Pages) (ks : Slots) (p : ℕ) (x : Option Words) → Refused s t p → view t ks ≡ changed (view s ks) p x

@@ -9,7 +9,7 @@ use Rattle.std.proofs.lemmas.List.Quantifiers.{position-Some}
 use Rattle.std.proofs.lemmas.Bool.{both_ways, cases_lt, cond-false, false_from_ne_true}
 use Rattle.std.proofs.lemmas.Option.{none-some}
 use Rattle.page_cache.specs.declared.slot.Slot.{Slot}
-use Rattle.page_cache.specs.Slots.{Slots, is_changed, keeps, slot_at, words_in, kept_in, Apart}
+use Rattle.page_cache.specs.Slots.{Slots, is_changed, keeps, slot_at, words_in, kept_in, Apart, Whole}
 use Rattle.page_cache.specs.Policy.{clean}
 use Rattle.page_cache.specs.Laws.{kept_cases}
 
@@ -37,7 +37,7 @@ kept_hit ks i p apart own = kept_cases (λ o. o ≡ words_in (slot_at ks i)) ks 
     (λ j k e h. let same : j ≡ i = apart j i p (subst (λ (q : ℕ). keeps q (slot_at ks j) ≡ true) h (slot_keeps (slot_at ks j) k e)) own in ap words_in (sym e ∙ ap (slot_at ks) same))
 
 -- What a search for the slot that keeps p tells.
-none_passes : {X : Type 0} (f : X → Bool) (xs : List X) (d : X) → f d ≡ false → position f xs ≡ None → (i : ℕ) → f (get_or xs i d) ≡ false
+pub none_passes : {X : Type 0} (f : X → Bool) (xs : List X) (d : X) → f d ≡ false → position f xs ≡ None → (i : ℕ) → f (get_or xs i d) ≡ false
 none_passes f xs d b e i = ⊎_elim
     (λ (l : i < length xs). fails_before_first f xs i d (let m : length xs ≤ position_or_len f xs = grind arith in omega arith))
     (λ (g : length xs ≤ i). ap f (get_or_past xs i d g) ∙ b)
@@ -61,6 +61,16 @@ kept_other ks i q x h g = kept_but ks i q x (slot_at ks i) h g ∙ ap (λ (l : S
 -- Slot i, which keeps p, is emptied.
 pub kept_emptied : (ks : Slots) (i p : ℕ) → Apart ks → keeps p (slot_at ks i) ≡ true → kept_in (slice_set ks i None) p ≡ None
 kept_emptied ks i p apart h = kept_miss (slice_set ks i None) p (λ j. grind (arith, common_steps))
+
+-- Slot i becomes x, which keeps no page that it did not keep.
+keeps_set : (ks : Slots) (i j p : ℕ) (x : Option Slot) → (keeps p x ≡ true → keeps p (slot_at ks i) ≡ true) → keeps p (slot_at (slice_set ks i x) j) ≡ true → keeps p (slot_at ks j) ≡ true
+keeps_set ks i j p x own h = grind (arith, common_steps)
+
+pub apart_set : (ks : Slots) (i : ℕ) (x : Option Slot) → Apart ks → ((p : ℕ) → keeps p x ≡ true → keeps p (slot_at ks i) ≡ true) → Apart (slice_set ks i x)
+apart_set ks i x apart own = λ a b p m n. apart a b p (keeps_set ks i a p x (own p) m) (keeps_set ks i b p x (own p) n)
+
+pub whole_set : (ks : Slots) (i : ℕ) (x : Option Slot) → Whole ks → ((k : Slot) → x ≡ Some k → length k.words ≡ 64) → Whole (slice_set ks i x)
+whole_set ks i x whole own = λ j k n. let other = whole j k in let here = own k in grind (arith, common_steps)
 
 -- What slot i keeps is marked as written: it keeps the same, and is not changed.
 pub kept_clean : (ks : Slots) (i q : ℕ) → kept_in (slice_set ks i (clean (slot_at ks i))) q ≡ kept_in ks q

@@ -7,10 +7,10 @@ use Rattle.std.proofs.lemmas.Bool.{both_ways, cases_Bool}
 use Rattle.std.proofs.lemmas.Option.{none-some, same_Some}
 use Rattle.page_store.specs.Pages.{Pages, Words, at}
 use Rattle.page_cache.specs.declared.slot.Slot.{Slot}
-use Rattle.page_cache.specs.Slots.{Slots, is_changed, keeps, words_in, slot_at, kept_in, Apart}
+use Rattle.page_cache.specs.Slots.{Slots, is_changed, keeps, words_in, slot_at, kept_in, Apart, Whole}
 use Rattle.page_cache.specs.Policy.{Places, slot_of, by_slot, replaced, after_give_back, clean, slot}
 use Rattle.page_cache.specs.Over.{over, lay, Fair, Tied}
-use Rattle.page_cache.specs.Laws.{length_over, at_over}
+use Rattle.page_cache.specs.Laws.{length_over, at_over, whole_over}
 use Rattle.page_cache.proofs.Laying.{lay_none, same_over, over_none, over_kept, over_same, over_but, over_unkept, over_written}
 use Rattle.page_cache.proofs.Slots.{slot_keeps, keeps_only, kept_hit, first_none, first_keeps, kept_but, kept_other, kept_emptied, kept_clean, cleaned}
 use Rattle.page_cache.proofs.Ties.{tied_same, tied_set, tied_unkept, slot_held, lay_slot, lay_clean}
@@ -114,3 +114,8 @@ pub gave : (s t : Pages) (b a : Places) (p : ℕ) → Apart b.slots → Tied s b
 gave s t b a p apart tied below after =
     subst (λ u. Means u a.slots (slice_set (view s b.slots) p None)) (sym below)
     (subst (λ x. Means (slice_set s p None) x.slots (slice_set (view s b.slots) p None)) (sym after) (gave_by s b p (slot_of b p) refl apart tied))
+
+-- A page that the cache means has 64 words.
+pub view_whole : (s : Pages) (ks : Slots) (p : ℕ) (w : Words) → Whole ks → ((v : Words) → at s p ≡ Some v → length v ≡ 64)
+    → at (view s ks) p ≡ Some w → length w ≡ 64
+view_whole s ks p w whole below e = whole_over s ks p w whole below e

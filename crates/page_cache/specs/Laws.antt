@@ -41,10 +41,14 @@ kept_cases P (Some k ∷ ks) p none some =
     (λ h. some 0 k refl (eqb-true k.page p h))
     (λ h. kept_cases P ks p (λ others. none (keeps_none (Some k) ks p h others)) (λ i. some (suc i)))
 
+kept_whole : (ks : Slots) (p : ℕ) (w : Words) → Whole ks → kept_in ks p ≡ Some w → length w ≡ 64
+kept_whole ks p w whole =
+    kept_cases (λ o. o ≡ Some w → length w ≡ 64) ks p (λ _ n. absurd (none-some w n)) (λ i k h _ n. subst (λ (v : Words). length v ≡ 64) (same_Some k.words w n) (whole i k h))
+
 -- A page that a cache means has 64 words, where each below has.
 pub whole_over : (s : Pages) (ks : Slots) (p : ℕ) (w : Words) → Whole ks
     → ((v : Words) → at s p ≡ Some v → length v ≡ 64) → at (over s (kept_in ks)) p ≡ Some w → length w ≡ 64
 whole_over s ks p w whole below e =
     lay_whole (at s p) (kept_in ks p) w (below w)
-    (kept_cases (λ o. o ≡ Some w → length w ≡ 64) ks p (λ _ n. absurd (none-some w n)) (λ i k h _ n. subst (λ (v : Words). length v ≡ 64) (same_Some k.words w n) (whole i k h)))
+    (kept_whole ks p w whole)
     (sym (at_over s (kept_in ks) p) ∙ e)

@@ -104,18 +104,23 @@ impl<S: PageStore> PageStore for Cache<S> {
         ensures writes { Writes (cached self.old) (cached self.new) page words.now result }
         ensures table { places_in self.new ≡ (if is_ok result then after_write (places_in self.old) page words.now else places_in self.old) }
     {
-        let slot = Slot {
-            page,
-            changed: true,
-            words: *words,
-        };
+        // The slot is made where it is put: a write that is refused copies no page.
         if let Some(number) = self.table.find(page) {
+            let slot = Slot {
+                page,
+                changed: true,
+                words: *words,
+            };
             self.table.put(number, slot);
             return Ok(());
         }
         // Only the store below knows whether the page is held.
         self.below.read(page, &mut [0; 64])?;
-        self.keep(slot);
+        self.keep(Slot {
+            page,
+            changed: true,
+            words: *words,
+        });
         Ok(())
     }
 

@@ -81,13 +81,8 @@ impl Table {
     pub(crate) fn mark_clean(&mut self, number: SlotNumber)
         ensures { places self.new ≡ replaced (places self.old) number.index (clean (slot_at self.old.slots number.index)) }
     {
-        // Copied out and put back: through a `&mut` to the slot the table's invariant leaves a goal that no answer can cite.
-        if let Some(slot) = self.slots[number.index] {
-            let written = Slot {
-                changed: false,
-                ..slot
-            };
-            self.put(number, written);
+        if let Some(slot) = &mut self.slots[number.index] {
+            slot.changed = false;
         }
     }
 

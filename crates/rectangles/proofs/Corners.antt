@@ -11,6 +11,16 @@ use Rattle.rectangles.specs.Signed.{signed, signed_fits, signed_is, back}
 pub cast_back : (n : ℕ) (z : ℤ) → n < 2 ^ 32 → z ≡ to_z w32 n → to_z w32 (of_z w32 z) ≡ signed n
 cast_back n z h e = ap (λ x. to_z w32 (of_z w32 x)) (e ∙ sym (signed_is n h)) ∙ back (signed n) (signed_fits n)
 
+-- The corners of a rectangle, passed.
+pub record Passed (a : Rectangle) : Type 0 where
+  pub left : to_z w32 (of_z w32 a.left) ≡ a.left
+  pub bottom : to_z w32 (of_z w32 a.bottom) ≡ a.bottom
+  pub right : to_z w32 (of_z w32 a.right) ≡ a.right
+  pub top : to_z w32 (of_z w32 a.top) ≡ a.top
+
+pub passed : (a : Rectangle) → Passed a
+passed a = record { left = back a.left a.west; bottom = back a.bottom a.south; right = back a.right a.east; top = back a.top a.north }
+
 pub le_is : (x y : ℤ) → is_le (int_cmp x y) ≡ int_le x y
 le_is x y = grind (arith, ints)
 

@@ -1,22 +1,23 @@
 -- The laws of the class.
-use Rattle.std.specs.Prelude.{◌≡◌, ℕ, ◌^◌, ◌<◌, Bool, true, false, if◌then◌else◌, [], ◌∷◌, ℤ, ◌≤ℤ◌, Some, None, Ok, int_le, refl}
+use Rattle.std.specs.Prelude.{◌≡◌, ℕ, ◌^◌, ◌<◌, Bool, true, false, if◌then◌else◌, ◌&&◌, T, [], ◌∷◌, ℤ, ◌≤ℤ◌, Some, None, Ok, int_le, refl}
 use Rattle.std.proofs.Common.{ap, ◌∙◌, arith, of_z}
 use mathlib.Core.HLevel.{is_prop→PathP}
 use Rattle.std.proofs.Math.Bridge.{le_prop}
 use Rattle.std.proofs.Math.Dec.{T_prop}
 use Rattle.std.specs.Int.Signed.{mag}
-use Rattle.std.specs.Int.{w32}
+use Rattle.std.specs.Int.{int_min, int_max, w32}
 use Rattle.std.specs.Result.{result_ok}
 use Rattle.std.proofs.lemmas.Int.{ints, clamps}
-use Rattle.std.proofs.lemmas.Bool.{cond-true}
+use Rattle.std.proofs.lemmas.Bool.{and_parts, and_from, cond-true}
 use Rattle.std.proofs.lemmas.Bool.Decides.{nat_tests}
 use Rattle.key_class.specs.Class.{Coded}
 use Rattle.key_class.proofs.Coding.{four_only}
 use Rattle.rectangles.specs.declared.rectangle.Rectangle.{Rectangle}
 use Rattle.rectangles.specs.declared.rectangle.RectangleQuery.{RectangleQuery}
 use Rattle.rectangles.specs.declared.rectangle.RectangleQuery.TheVariants.{Meets, Inside, HoldsPoint}
-use Rattle.rectangles.specs.Signed.{signed, word_fits, signed_back, word_back}
+use Rattle.rectangles.specs.Signed.{signed, le_from, word_fits, signed_back, word_back}
 use Rattle.rectangles.specs.Rectangles.{covers, meets, holds_point, union, squeeze, rectangle_if, read_rectangle, words_fit, key_of, matches, may_hold, rectangle_growing}
+use Rattle.rectangles.specs.Points.{Holds}
 
 -- Rectangles with the same corners are the same.
 ≤ℤ_prop : {a b : ℤ} → IsProp (a ≤ℤ b)
@@ -36,10 +37,25 @@ same_rectangle a b e f g h = λ i. record {
   north = is_prop→PathP (λ j. mag (h j) < 2 ^ 31) (λ j. le_prop) a.north b.north i;
 }
 
--- From words and back.
-le_true : {a b : ℤ} → a ≤ℤ b → int_le a b ≡ true
-le_true h = grind (arith, ints)
+-- Tests and orders.
+is_true : (b : Bool) → T b → b ≡ true
+is_true true t = refl
+is_true false t = absurd t
 
+pub le_true : {a b : ℤ} → a ≤ℤ b → int_le a b ≡ true
+le_true {a} {b} h = is_true (int_le a b) h.le
+
+four_le : (a b c d e f g h : ℤ) → ((int_le a b && int_le c d) && (int_le e f && int_le g h)) ≡ true → (a ≤ℤ b) × (c ≤ℤ d) × (e ≤ℤ f) × (g ≤ℤ h)
+four_le a b c d e f g h t =
+    let p = and_parts (int_le a b && int_le c d) (int_le e f && int_le g h) t in
+    let q = and_parts (int_le a b) (int_le c d) p.0 in
+    let r = and_parts (int_le e f) (int_le g h) p.1 in
+    (le_from q.0, le_from q.1, le_from r.0, le_from r.1)
+
+le_four : (a b c d e f g h : ℤ) → a ≤ℤ b → c ≤ℤ d → e ≤ℤ f → g ≤ℤ h → ((int_le a b && int_le c d) && (int_le e f && int_le g h)) ≡ true
+le_four a b c d e f g h p q r s = and_from _ _ (and_from _ _ (le_true p) (le_true q)) (and_from _ _ (le_true r) (le_true s))
+
+-- From words and back.
 pub made : (l b r t : ℕ) (k : Rectangle) (x y : Bool) (e : int_le (signed l) (signed r) ≡ x) (f : int_le (signed b) (signed t) ≡ y) → x ≡ true → y ≡ true
     → signed l ≡ k.left → signed b ≡ k.bottom → signed r ≡ k.right → signed t ≡ k.top → rectangle_if l b r t x y e f ≡ Ok k
 made l b r t k true true e f u v e₁ e₂ e₃ e₄ = ap Ok (same_rectangle _ k e₁ e₂ e₃ e₄)
@@ -104,6 +120,30 @@ close a b h = grind (arith, ints)
 
 pub meeting : (a b : Rectangle) → Close a b → meets a b ≡ true
 meeting a b h = grind (arith, ints)
+
+pub holding : (a : Rectangle) (x y : ℤ) → holds_point a x y ≡ true → Holds a x y
+holding a x y = four_le a.left x x a.right a.bottom y y a.top
+
+pub held : (a : Rectangle) (x y : ℤ) → Holds a x y → holds_point a x y ≡ true
+held a x y h = le_four a.left x x a.right a.bottom y y a.top h.0 h.1 h.2 h.3
+
+pub through : (a b c : ℤ) → a ≤ℤ b → b ≤ℤ c → a ≤ℤ c
+through a b c h k = omega (arith, ints)
+
+pub itself : (a : ℤ) → a ≤ℤ a
+itself a = omega (arith, ints)
+
+min_first : (a b : ℤ) → int_min a b ≤ℤ a
+min_first a b = omega (arith, ints, clamps)
+
+min_second : (a b : ℤ) → int_min a b ≤ℤ b
+min_second a b = omega (arith, ints, clamps)
+
+pub max_first : (a b : ℤ) → a ≤ℤ int_max a b
+max_first a b = omega (arith, ints, clamps)
+
+pub max_second : (a b : ℤ) → b ≤ℤ int_max a b
+max_second a b = omega (arith, ints, clamps)
 
 -- The laws.
 pub covers_itself : (a : Rectangle) → covers a a ≡ true

@@ -1,5 +1,5 @@
 -- Signed numbers of 32 bits, and what it takes to state rectangles of them.
-use Rattle.std.specs.Prelude.{◌≡◌, ℕ, ◌%◌, ◌^◌, ◌<◌, true, ℤ, ◌≤ℤ◌, int_le}
+use Rattle.std.specs.Prelude.{◌≡◌, ℕ, ◌%◌, ◌^◌, ◌<◌, Bool, true, false, cond, ℤ, ◌≤ℤ◌, int_le, int_lt}
 use Rattle.std.proofs.Common.{mod-lt, arith, to_z, ap, ◌∙◌, mod-eq_of_lt, of_z}
 use Rattle.std.specs.Int.Signed.{mag}
 use Rattle.std.proofs.Math.Facts.{sfits_to_z}
@@ -19,11 +19,15 @@ le_from e = grind (arith, ints)
 pub min_max : (a b c d : ℤ) → a ≤ℤ b → c ≤ℤ d → int_min a c ≤ℤ int_max b d
 min_max a b c d h k = omega (arith, ints, clamps)
 
+fits_cond : (t : Bool) (a b : ℤ) → mag a < 2 ^ 31 → mag b < 2 ^ 31 → mag (cond t a b) < 2 ^ 31
+fits_cond true a b h k = h
+fits_cond false a b h k = k
+
 pub fits_min : (a b : ℤ) → mag a < 2 ^ 31 → mag b < 2 ^ 31 → mag (int_min a b) < 2 ^ 31
-fits_min a b h k = grind (arith, ints, clamps)
+fits_min a b h k = fits_cond (int_lt b a) b a k h
 
 pub fits_max : (a b : ℤ) → mag a < 2 ^ 31 → mag b < 2 ^ 31 → mag (int_max a b) < 2 ^ 31
-fits_max a b h k = grind (arith, ints, clamps)
+fits_max a b h k = fits_cond (int_lt b a) a b h k
 
 -- Words and back.
 pub back : (z : ℤ) → mag z < 2 ^ 31 → to_z w32 (of_z w32 z) ≡ z

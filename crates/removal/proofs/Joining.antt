@@ -105,7 +105,7 @@ module _ {K : Type 0} {G X : Growing K} (tied : G ≡ X) {s : Pages} {n : Node} 
           place_some G key (on_page (suc h) others) j (at_class tied (λ Y. Chooses Y o key (Some j)) chooses (suc (suc h)) (on_page (suc h) others) o_stands)
           ∙ growth_on_page (suc h) G key others ∙ ap (λ (y : K). least_growth G y others) key_is
 
-      inside : j < length others
+      pub inside : j < length others
       inside = subst (λ (m : ℕ). m < length others) (sym least) (within G (union_of G k v.entries) others o_some)
 
       partner : Entry K (Tree K h)

@@ -55,20 +55,20 @@ module _ {K : Type 0} (h : ℕ) where
     beside : Nodup (pages_at (suc h) e ++ flat_map (pages_at (suc h)) (without u.entries i))
     beside = Perm.nodup (joined_perm (pages_at (suc h)) (nth_first u.entries i e there)) (Nodup-cons.0 once).1
 
-    once_below : Nodup (pages_of h e.link)
+    pub once_below : Nodup (pages_of h e.link)
     once_below = (Nodup-append.0 beside).0
 
-    own_apart : AllByRecursion (λ p. e.link.page ≢ p) (flat_map (pages_at h) e.link.entries)
+    pub own_apart : AllByRecursion (λ p. e.link.page ≢ p) (flat_map (pages_at h) e.link.entries)
     own_apart = first_apart e.link.page (flat_map (pages_at h) e.link.entries) once_below
 
-    others_apart : AllByRecursion (λ f. AllByRecursion (λ p. f.link.page ≢ p) (flat_map (pages_at h) e.link.entries)) (without u.entries i)
+    pub others_apart : AllByRecursion (λ f. AllByRecursion (λ p. f.link.page ≢ p) (flat_map (pages_at h) e.link.entries)) (without u.entries i)
     others_apart = apart_from (flat_map (pages_at h) e.link.entries) (without u.entries i) (λ a m l. (Nodup-append.0 beside).2 a (mem-cons_of_mem e.link.page m) l)
 
 four_least : (h m : ℕ) → 4 ≤ m → root_least h ≤ m
 four_least zero m l = omega arith
 four_least (suc h) m l = omega arith
 
-sound_below : {K : Type 0} (G : Growing K) (s : Pages) (h : ℕ) (u : Tree K (suc h)) (i : ℕ) (e : Entry K (Tree K h)) → Sound G s (suc h) u → slice_get u.entries i ≡ Some e → Sound G s h e.link
+pub sound_below : {K : Type 0} (G : Growing K) (s : Pages) (h : ℕ) (u : Tree K (suc h)) (i : ℕ) (e : Entry K (Tree K h)) → Sound G s (suc h) u → slice_get u.entries i ≡ Some e → Sound G s h e.link
 sound_below G s h u i e so there = record {
   lies = lies_below G s h u i e so.lies there;
   least = four_least h (length e.link.entries) (all_nth (Ruled G (suc h)) u.entries i e so.lies.below there).1.0;

@@ -8,7 +8,7 @@ pub loop-p-init : goal.loop-p-init
 loop-p-init g c =
     rw (c.new-groups.ensures, c.len-n.ensures)
     (marked_begin g.K.Key.growing c.worst_pair-seeds.result c.args.self.now c.worst_pair-seeds.ensures.places
-    c.at.result c.at-2.result (omega arith) c.at.ensures c.at-2.ensures c.worst_pair-seeds.ensures.value)
+    _ (omega arith) (omega arith) (grind arith) (cc) (cc) (omega arith) c.worst_pair-seeds.ensures.value)
 
 pub place-requires-clause-some : goal.place-requires-clause-some
 place-requires-clause-some g c =

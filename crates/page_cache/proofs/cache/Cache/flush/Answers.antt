@@ -1,4 +1,4 @@
-use Rattle.std.proofs.Common.{is_ok, sym, ap, ◌∙◌}
+use Rattle.std.proofs.Common.{is_ok, Some, set, sym, ap, ◌∙◌, rules}
 use Rattle.std.proofs.lemmas.Bool.{both_ways}
 use Rattle.page_store.proofs.Calling.{Held, answer_held, changed_held}
 use Rattle.page_cache.specs.Cached.{cached}
@@ -13,7 +13,8 @@ held g c = (c.args.self.now.tied _ _ c.in-Some.ensures.some.0).held
 written : (g : Over) (c : After-mark_clean g) → Means (g.S.PageStore.meaning c.write.new.self) c.mark_clean.new.self.slots (cached c.args.self.now)
 written g c =
     flushed _ _ _ _ c.args.number.index c.in-Some.slot.now c.args.self.now.table.apart c.args.self.now.tied c.in-Some.ensures.some.0
-    (c.write.ensures.pages ∙ changed_held _ _ _ (held g (goal.at.invariant_of-self-then-is_ok g c).In-Some))
+    (c.write.ensures.pages ∙ changed_held _ _ _ (held g (goal.at.invariant_of-self-then-is_ok g c).In-Some)
+    ∙ ap (λ w. set (g.S.PageStore.meaning c.args.self.now.below) c.in-Some.slot.now.page (Some w)) (search rules))
     (ap (λ t. t.slots) c.mark_clean.ensures)
 
 refused : (g : Over) (c : Else-is_ok g) → ⊥

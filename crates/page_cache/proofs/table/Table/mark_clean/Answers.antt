@@ -1,5 +1,9 @@
-use Rattle.page_cache.proofs.Slots.{slot_keeps, no_other_keeps}
+use Rattle.std.proofs.Common.{arith}
+use Rattle.page_cache.proofs.Slots.{apart_set, whole_set}
 use Rattle.page_cache.proofs.table.Table.mark_clean.Goals as goal
 
-pub put-requires : goal.put-requires
-put-requires c = no_other_keeps c.args.self.now.slots c.args.number.index c.in-Some.slot.page c.args.self.now.apart (slot_keeps _ c.in-Some.slot c.in-Some.is)
+pub invariant_of-self-clause-apart : goal.invariant_of-self-clause-apart
+invariant_of-self-clause-apart c = apart_set c.args.self.now.slots _ _ c.args.self.now.apart (λ p h. grind arith)
+
+pub invariant_of-self-clause-whole : goal.invariant_of-self-clause-whole
+invariant_of-self-clause-whole c = whole_set c.args.self.now.slots _ _ c.args.self.now.whole (λ k e. let w = c.args.self.now.whole _ _ c.in-Some.is in grind arith)
