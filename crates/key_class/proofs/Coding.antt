@@ -20,6 +20,13 @@ keys_cons {K} G w ws h = go (G.unsqueeze w) h.0
     go None e = absurd (false≢true e)
     go (Some k) e = (k, refl, refl)
 
+-- The words of their keys are the words.
+pub words_of_keys : {K : Type 0} {G : Growing K} (C : Coded G) (ws : List (List ℕ)) → AllKeys G ws → map G.squeeze (keys_of G ws) ≡ ws
+words_of_keys C [] h = refl
+words_of_keys {K} {G} C (w ∷ ws) h =
+    let e = keys_cons G w ws h in
+    ap (map G.squeeze) e.2 ∙ ap (λ v. v ∷ map G.squeeze (keys_of G ws)) (C.only_squeezed w e.0 e.1) ∙ ap (λ vs. w ∷ vs) (words_of_keys C ws h.1)
+
 pub length_keys : {K : Type 0} (G : Growing K) (ws : List (List ℕ)) → AllKeys G ws → length (keys_of G ws) ≡ length ws
 length_keys G [] h = refl
 length_keys G (w ∷ ws) h = ap length (keys_cons G w ws h).2 ∙ ap suc (length_keys G ws h.1)

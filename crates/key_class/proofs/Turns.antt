@@ -1,12 +1,12 @@
 -- The loops of the quadratic split, one turn on.
-use Rattle.std.proofs.Common.{◌≡◌, ◌≢◌, ℕ, ◌+◌, ◌-◌, ◌<◌, ◌≤◌, Bool, true, false, ◌⊎◌, ◌==◌, List, [], ◌∷◌, ◌++◌, length, get_or, take, drop, set, replicate, slice_get, Some, IfSome, inl, inr, sym, refl, ap, ap₂, ◌∙◌, subst, arith, append-nil, length-set, length-take-le, get_or-set_other, get_or-set_same, get_or-take, take_all, take_at}
-use Rattle.std.proofs.lemmas.List.{take_more, take_more_set, append_assoc, get_or-replicate, at_drop_all}
+use Rattle.std.proofs.Common.{◌≡◌, ◌≢◌, ℕ, ◌+◌, ◌-◌, ◌<◌, ◌≤◌, Bool, true, false, if◌then◌else◌, eqb, ◌⊎◌, ◌==◌, List, [], ◌∷◌, ◌++◌, length, get_or, take, drop, set, replicate, slice_get, Some, IfSome, inl, inr, sym, refl, ap, ap₂, ◌∙◌, subst, arith, append-nil, length-set, length-take-le, get_or-set_other, get_or-set_same, get_or-take, take_all, take_at}
+use Rattle.std.proofs.lemmas.List.{drop_more, take_more, take_more_set, append_assoc, get_or-replicate, at_drop_all}
 use Rattle.std.proofs.lemmas.Option.{slice_get_cases, MatchOption-at_some, slice_get_within, slice_get-get_or, get_or_from_slice_get}
 use Rattle.std.proofs.lemmas.Bool.Decides.{eqb_tells, nat_tests}
 use Rattle.key_class.specs.declared.groups.Groups.{Groups}
 use Rattle.key_class.specs.declared.groups.Seeds.{Seeds}
 use Rattle.key_class.specs.Class.{Growing}
-use Rattle.key_class.specs.Quadratic.{larger_growth, worse, worst_after, worst_from, goes_next, placed, mark, next, marks_from, begun, split_at, quadratic, seeds_of}
+use Rattle.key_class.specs.Quadratic.{larger_growth, worse, worst_after, worst_from, size, goes_next, placed, mark, next, marks_from, begun, split_at, quadratic, seeds_of}
 use Rattle.key_class.proofs.Coding.{drop_at}
 use Rattle.key_class.proofs.Sharing.{Fair, fair_begun, fair_on, turn}
 
@@ -31,6 +31,22 @@ module _ {K : Type 0} (G : Growing K) where
         ∙ ap (λ l. worst_from G i l s) (sym (drop_at ks i a p.2)))
     | inr p ↦ absurd (omega arith)
   ]
+
+  pub marks_more : (s : Seeds) (p : ℕ) (ks : List K) (k : K) (g g' : Groups K) (marks : List Bool) (b : Bool) → p < length ks → p < length marks → k ≡ get_or ks p k
+      → b ≡ mark G s p g k → g' ≡ next G s p g k → take (p + 1) (set marks p b) ++ marks_from G s (p + 1) g' (drop (p + 1) ks) ≡ take p marks ++ marks_from G s p g (drop p ks)
+  marks_more s p ks k g g' marks b h l at e f =
+      rw (take_more_set marks p b l, append_assoc, e, f)
+      (ap (λ l. take p marks ++ marks_from G s p g l) (sym (drop_more ks p k h ∙ ap (λ x. x ∷ drop (p + 1) ks) (sym at))))
+
+  -- One key more is in the groups, at most.
+  next_size : (g : Groups K) (k : K) (x y b : Bool) → size (if x then g else if y then g else placed G g k b) ≤ size g + 1
+  next_size g k true y b = omega arith
+  next_size g k false true b = omega arith
+  next_size g k false false true = omega arith
+  next_size g k false false false = omega arith
+
+  pub size_more : (s : Seeds) (p : ℕ) (g g' : Groups K) (k : K) → g' ≡ next G s p g k → size g' ≤ size g + 1
+  size_more s p g g' k e = subst (λ h. size h ≤ size g + 1) (sym e) (next_size g k (eqb p s.first) (eqb p s.second) (goes_next G g k))
 
   -- What the loop of the marks has done before place p.
   pub record Marked (s : Seeds) (ks : List K) (p : ℕ) (g : Groups K) (marks : List Bool) : Type 0 where

@@ -62,6 +62,10 @@ meet_is a b h =
     ap not (zero_is (bit_and a b) (omega arith)) ∙ not-not (some_below 32 (bit (bit_and a b)))
     ∙ same_below some_joins 32 (bit (bit_and a b)) (λ i. bit a i && bit b i) (λ i k. bit-bit_and a b i)
 
+-- What is in y and not in both is in y and not in x.
+lacks : (x y : Bool) → (if y then not (x && y) else x && y) ≡ (y && not x)
+lacks x y = grind arith
+
 pub lacking_is : (a b : ℕ) → a < 2 ^ 32 → b < 2 ^ 32 → ones (bit_and b (bit_not w32 a)) ≡ count_below 32 (λ i. bit b i && not (bit a i))
 lacking_is a b h k =
     let l = and_le_r b (bit_not w32 a) in

@@ -5,7 +5,7 @@ use Rattle.std.specs.List.{copy_within, flat_map}
 use Rattle.std.proofs.lemmas.List.Edits.{length-remove}
 use Rattle.std.proofs.lemmas.Option.{slice_get_within, get_or_from_slice_get}
 use Rattle.std.proofs.lemmas.Bool.{lt-ltb}
-use Rattle.std.proofs.lemmas.List.{take_all, take_at, drop_all, drop-drop, drop_more, drop-replicate, length-drop, length_push, length-set, length-take-le, take_more, set-append_right, set_split, replicate-append-replicate}
+use Rattle.std.proofs.lemmas.List.{take_all, take_at, drop_all, drop-drop, drop_more, drop-replicate, get_or_append_left, get_or-take, length-drop, length_push, length-set, length-take-le, take_more, set-append_right, set_split, replicate-append-replicate}
 use Rattle.key_class.specs.Class.{Growing, Coded}
 use Rattle.node.specs.Nodes.{Entry, entry_words, node_words, without}
 use Rattle.node.specs.Reading.{count_in}
@@ -35,6 +35,21 @@ put_words w part row i long five same low =
     ∙ ap (λ (l : List ℕ). take a w ++ (take 4 row ++ set l 0 link)) rest
     ∙ ap (λ l. take a w ++ l) (sym (append_assoc (take 4 row) (link ∷ []) (drop (9 + 5 * i) w)))
     ∙ ap (λ l. take a w ++ (l ++ drop (9 + 5 * i) w)) whole
+
+pub length_with : (w row : List ℕ) (i : ℕ) → length w ≡ 64 → length row ≡ 5 → i < 12 → length (with_row w i row) ≡ 64
+length_with w row i long five low =
+    let size = length-take-le (4 + 5 * i) w (omega arith) in
+    let a = length-append (take (4 + 5 * i) w) (row ++ drop (9 + 5 * i) w) in
+    let b = length-append row (drop (9 + 5 * i) w) in
+    let d = length-drop (9 + 5 * i) w in
+    omega arith
+
+-- The count stays.
+pub count_with : (w u row : List ℕ) (i : ℕ) → u ≡ with_row w i row → length w ≡ 64 → i < 12 → count_in u ≡ count_in w
+count_with w u row i is long low =
+    let size = length-take-le (4 + 5 * i) w (omega arith) in
+    ap count_in is
+    ∙ get_or_append_left (take (4 + 5 * i) w) (row ++ drop (9 + 5 * i) w) 0 1 (omega arith) ∙ get_or-take (4 + 5 * i) w 1 0 (omega arith)
 
 -- The words from entry i + 1 on are copied to entry i, and zeros come behind them.
 closed : (w : List ℕ) (i : ℕ) → length w ≡ 64 → i < 12

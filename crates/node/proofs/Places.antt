@@ -4,7 +4,7 @@ use Rattle.std.specs.Option.{option_map}
 use Rattle.std.specs.List.{flat_map, slice_get}
 use Rattle.std.proofs.lemmas.Option.{slice_get-map}
 use Rattle.std.proofs.lemmas.Grind.{flat_map-append}
-use Rattle.std.proofs.lemmas.List.{take-append-drop, take_at, drop_at, length-take-le}
+use Rattle.std.proofs.lemmas.List.{take-append-drop, take_at, drop_at, get_or-drop, length-take-le}
 use Rattle.key_class.specs.Class.{Growing, Coded}
 use Rattle.node.specs.Nodes.{Entry, entry_words, node_words}
 use Rattle.node.specs.Reading.{rows, entry_in}
@@ -29,6 +29,30 @@ here (x ∷ xs) (suc i) l =
       so_far = ap (λ n. take n (x ∷ xs)) e ∙ ap (λ ys. x ∷ ys) r.so_far;
       left = r.left ∙ ap (λ n. r.it ∷ drop n (x ∷ xs)) (sym e);
     }
+
+-- The four words from place n on.
+abbrev pub four_at : List ℕ → ℕ → List ℕ
+four_at w n = get_or w n 0 ∷ get_or w (n + 1) 0 ∷ get_or w (n + 2) 0 ∷ get_or w (n + 3) 0 ∷ []
+
+-- What stands at the five places from n on.
+pub record Five (w : List ℕ) (n : ℕ) (four : List ℕ) (x : ℕ) : Type 0 where
+  pub keyed : four_at w n ≡ four
+  pub linked : get_or w (n + 4) 0 ≡ x
+
+five_at : (w : List ℕ) (n : ℕ) (four rest : List ℕ) (x : ℕ) → length four ≡ 4 → drop n w ≡ four ++ x ∷ rest → Five w n four x
+five_at w n [] rest x f e = absurd (omega arith)
+five_at w n (a ∷ []) rest x f e = absurd (omega arith)
+five_at w n (a ∷ b ∷ []) rest x f e = absurd (omega arith)
+five_at w n (a ∷ b ∷ c ∷ []) rest x f e = absurd (omega arith)
+five_at w n (a ∷ b ∷ c ∷ d ∷ []) rest x f e =
+    let at : (j : ℕ) → get_or w (n + j) 0 ≡ get_or (a ∷ b ∷ c ∷ d ∷ x ∷ rest) j 0 = λ j. sym (get_or-drop n w j 0) ∙ ap (λ (u : List ℕ). get_or u j 0) e in
+    let z : n + 0 ≡ n = omega arith in
+    let e0 : get_or w n 0 ≡ a = ap (λ (m : ℕ). get_or w m 0) (sym z) ∙ at 0 in
+    let e1 : get_or w (n + 1) 0 ≡ b = at 1 in
+    let e2 : get_or w (n + 2) 0 ≡ c = at 2 in
+    let e3 : get_or w (n + 3) 0 ≡ d = at 3 in
+    record { keyed = cc; linked = at 4 }
+five_at w n (a ∷ b ∷ c ∷ d ∷ y ∷ more) rest x f e = absurd (omega arith)
 
 -- The zeros behind n entries.
 abbrev pub zeros : ℕ → List ℕ

@@ -1,8 +1,8 @@
 -- How the entries of a pool are dealt to two nodes.
-use Rattle.std.proofs.Common.{◌≡◌, ℕ, ◌<◌, ◌≤◌, Bool, true, false, cond, ltb, ◌⊎◌, inl, inr, List, [], ◌∷◌, ◌++◌, map, length, take, sym, refl, ap, ◌∙◌, append_assoc, append-nil, arith, length-append}
+use Rattle.std.proofs.Common.{◌≡◌, ℕ, ◌<◌, ◌≤◌, Bool, true, false, cond, ltb, ◌⊎◌, inl, inr, List, [], ◌∷◌, ◌++◌, map, length, take, sym, refl, ap, ◌∙◌, subst, append_assoc, append-nil, arith, length-append}
 use lib.ListN.{length-map}
 use Rattle.std.proofs.lemmas.List.{nil_from_length}
-use Rattle.key_class.specs.Class.{Growing, Coded, Class, Lawful, Picks}
+use Rattle.key_class.specs.Class.{Growing, Coded, Class, Lawful, Shares, Picks}
 use Rattle.node.specs.Nodes.{Entry, keys, entry_words, node_words, stay, go}
 use Rattle.node.specs.Reading.{count_in}
 use Rattle.node.specs.InMemory.{pushed_row}
@@ -36,16 +36,19 @@ picked {K} A {G} C tied es low high words is goes pick =
     squeezed (e ∷ es) = let a = key_part C e in let b = squeezed es in cc
 
 -- Each node gets at least four of at most 15, and so no more than eleven.
+fits : {X : Type 0} (ms : List Bool) (xs : List X) → Shares (length xs) ms → length xs ≤ 15 → (length (stay ms xs) ≤ 12) × (length (go ms xs) ≤ 12)
+fits ms xs s few =
+    let a = length_stay ms xs s.each in
+    let b = length_go ms xs s.each in
+    let c = stay_or_go ms in
+    (omega (arith, s.four_stay, s.four_go, s.each), omega (arith, s.four_stay, s.four_go, s.each))
+
+-- So it is for what a lawful class picks.
 pub each_fits : {K Q : Type 0} (A : Class K Q) → Lawful A → (es : List (Entry K ℕ)) → 13 ≤ length es → length es ≤ 15
     → (length (stay (A.split (keys es)) es) ≤ 12) × (length (go (A.split (keys es)) es) ≤ 12)
 each_fits A lawful es low high =
     let n : length (keys es) ≡ length es = length-map es (λ e. e.key) in
-    let ms = A.split (keys es) in
-    let s = lawful.splits (keys es) (omega arith) (omega arith) in
-    let a = length_stay ms es (omega arith) in
-    let b = length_go ms es (omega arith) in
-    let c = stay_or_go ms in
-    (omega arith, omega arith)
+    fits (A.split (keys es)) es (subst (λ (m : ℕ). Shares m (A.split (keys es))) n (lawful.splits (keys es) (omega arith) (omega arith))) high
 
 -- The entry whose row comes first.
 record Next {K : Type 0} (G : Growing K) (left : List (Entry K ℕ)) (row : List ℕ) (rows : List (List ℕ)) : Type 0 where
@@ -92,40 +95,47 @@ module _ {K : Type 0} {G : Growing K} (C : Coded G) (level : ℕ) (marks : List 
       over_at (inl e) = omega (arith, ap length d.rowed, length-map d.left (entry_words G))
       over_at (inr e) = omega (arith, d.marked)
 
+  -- What is left to come, the first entry with its mark first.
+  left_now : {low high : List ℕ} {rows : List (List ℕ)} {goes : List Bool} (d : Dealt G level marks es low high rows goes) (it : Entry K ℕ) (rest : List (Entry K ℕ)) → d.left ≡ it ∷ rest
+      → (b : Bool) (goes' : List Bool) → goes ≡ b ∷ goes'
+      → (d.stayed ++ stay (b ∷ goes') (it ∷ rest) ≡ stay marks es) × (d.gone ++ go (b ∷ goes') (it ∷ rest) ≡ go marks es)
+  left_now {low} {high} {rows} {goes} d it rest is b goes' mark = (
+    ap (λ xs. d.stayed ++ xs) (sym (ap (λ ms. stay ms d.left) mark ∙ ap (stay (b ∷ goes')) is)) ∙ d.stays,
+    ap (λ xs. d.gone ++ xs) (sym (ap (λ ms. go ms d.left) mark ∙ ap (go (b ∷ goes')) is)) ∙ d.leaves,
+  )
+
   -- The next entry, whose row comes first, goes or stays.
   module _ (low high : List ℕ) (rows : List (List ℕ)) (goes : List Bool) (d : Dealt G level marks es low high rows goes) (row : List ℕ) (rows' : List (List ℕ)) (first : rows ≡ row ∷ rows') (goes' : List Bool) where
     pub dealt_gone : goes ≡ true ∷ goes' → length (go marks es) ≤ 12 → (u : List ℕ) (r : Bool) → r ≡ ltb (count_in high) 12 → u ≡ cond r (pushed_row high row) high
         → Dealt G level marks es low u rows' goes'
     dealt_gone mark few u r full words =
         let n = next G row rows' d.left (sym first ∙ d.rowed) in
-        let s : d.stayed ++ stay goes' n.rest ≡ stay marks es = ap (λ xs. d.stayed ++ xs) (sym (ap (λ ms. stay ms d.left) mark ∙ ap (stay (true ∷ goes')) n.is)) ∙ d.stays in
-        let g : d.gone ++ n.it ∷ go goes' n.rest ≡ go marks es = ap (λ xs. d.gone ++ xs) (sym (ap (λ ms. go ms d.left) mark ∙ ap (go (true ∷ goes')) n.is)) ∙ d.leaves in
+        let a = left_now d n.it n.rest n.is true goes' mark in
         record {
           stayed = d.stayed;
           gone = d.gone ++ n.it ∷ [];
           left = n.rest;
           low_is = d.low_is;
-          high_is = pushed_within C level d.gone high d.high_is (room d.gone n.it _ _ g few) n.it row n.first u r full words;
+          high_is = pushed_within C level d.gone high d.high_is (room d.gone n.it _ _ a.1 few) n.it row n.first u r full words;
           rowed = n.others;
           marked = omega (arith, d.marked, ap length mark, ap length n.is);
-          stays = s;
-          leaves = append_assoc d.gone (n.it ∷ []) (go goes' n.rest) ∙ g;
+          stays = a.0;
+          leaves = append_assoc d.gone (n.it ∷ []) (go goes' n.rest) ∙ a.1;
         }
 
     pub dealt_stayed : goes ≡ false ∷ goes' → length (stay marks es) ≤ 12 → (u : List ℕ) (r : Bool) → r ≡ ltb (count_in low) 12 → u ≡ cond r (pushed_row low row) low
         → Dealt G level marks es u high rows' goes'
     dealt_stayed mark few u r full words =
         let n = next G row rows' d.left (sym first ∙ d.rowed) in
-        let s : d.stayed ++ n.it ∷ stay goes' n.rest ≡ stay marks es = ap (λ xs. d.stayed ++ xs) (sym (ap (λ ms. stay ms d.left) mark ∙ ap (stay (false ∷ goes')) n.is)) ∙ d.stays in
-        let g : d.gone ++ go goes' n.rest ≡ go marks es = ap (λ xs. d.gone ++ xs) (sym (ap (λ ms. go ms d.left) mark ∙ ap (go (false ∷ goes')) n.is)) ∙ d.leaves in
+        let a = left_now d n.it n.rest n.is false goes' mark in
         record {
           stayed = d.stayed ++ n.it ∷ [];
           gone = d.gone;
           left = n.rest;
-          low_is = pushed_within C level d.stayed low d.low_is (room d.stayed n.it _ _ s few) n.it row n.first u r full words;
+          low_is = pushed_within C level d.stayed low d.low_is (room d.stayed n.it _ _ a.0 few) n.it row n.first u r full words;
           high_is = d.high_is;
           rowed = n.others;
           marked = omega (arith, d.marked, ap length mark, ap length n.is);
-          stays = append_assoc d.stayed (n.it ∷ []) (stay goes' n.rest) ∙ s;
-          leaves = g;
+          stays = append_assoc d.stayed (n.it ∷ []) (stay goes' n.rest) ∙ a.0;
+          leaves = a.1;
         }

@@ -1,8 +1,9 @@
 -- What each question tells of a page, and that the words of a node answer each with yes.
-use Rattle.std.proofs.Common.{◌≡◌, ℕ, zero, suc, ◌+◌, ◌-◌, ◌*◌, Bool, true, false, ◌&&◌, eqb, leb, List, [], ◌∷◌, ◌++◌, map, length, get_or, take, drop, replicate, is_some, Some, None, Option, sym, refl, ap, ◌∙◌, arith, length-drop}
+use Rattle.std.proofs.Common.{◌≡◌, ℕ, zero, suc, ◌+◌, ◌-◌, ◌*◌, ◌<◌, Bool, true, false, ◌&&◌, eqb, leb, List, [], ◌∷◌, ◌++◌, map, length, get_or, take, drop, replicate, is_some, Some, None, Option, sym, refl, ap, ◌∙◌, arith, length-drop}
 use lib.ListN.{length-map}
 use Rattle.std.specs.Option.{option_map}
 use Rattle.std.specs.List.{list_all, cons_option, AllByRecursion}
+use Rattle.std.specs.Simd.{first_chunks}
 use Rattle.std.proofs.lemmas.List.Folds.{flat_map-map}
 use Rattle.std.proofs.lemmas.List.{take_all, take_more}
 use Rattle.std.proofs.lemmas.Bool.{false≢true, eqb-true, leb-true, le-leb, and_parts, and_from}
@@ -11,7 +12,15 @@ use Rattle.node.specs.Nodes.{Entry, IsNode, entry_words, node_words, link_fits}
 use Rattle.node.specs.Reading.{level_in, count_in, rows, level_fits, count_fits, rest_is_zero, keys_fit, links_fit, unless, refusal_of, entries_in}
 use Rattle.node.specs.declared.refusal.NodeRefusal.{NodeRefusal}
 use Rattle.node.specs.declared.refusal.NodeRefusal.TheVariants.{BadLevel, BadCount, NotZero, BadKey, BadLink}
-use Rattle.node.proofs.Rows.{length_rows, all_fives, page_is, key_part, link_part, entry_back, rows_of, zeros_of}
+use Rattle.node.proofs.Rows.{groups_more, length_rows, all_fives, page_is, key_part, link_part, entry_back, rows_of, zeros_of}
+
+-- The rows from place i on.
+abbrev pub left : List ℕ → ℕ → List (List ℕ)
+left w i = first_chunks 5 (count_in w - i) (drop (4 + 5 * i) w)
+
+-- They pass where the first passes and the others do; b says whether the first does.
+pub at_row : (f : List ℕ → Bool) (w : List ℕ) (i : ℕ) (b : Bool) → i < count_in w → f (take 5 (drop (4 + 5 * i) w)) ≡ b → list_all f (left w i) ≡ (b && list_all f (left w (i + 1)))
+at_row f w i b l h = ap (list_all f) (groups_more (count_in w) i w l) ∙ ap (λ c. c && list_all f (left w (i + 1))) h
 
 -- Each question has a yes.
 pub record Fits {K : Type 0} (G : Growing K) (w : List ℕ) : Type 0 where

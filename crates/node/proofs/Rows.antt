@@ -1,9 +1,9 @@
 -- How the rows of five words lie in a page, and what the words of a node are made of.
-use Rattle.std.proofs.Common.{◌≡◌, ℕ, zero, suc, ◌+◌, ◌-◌, ◌*◌, ◌≤◌, List, [], ◌∷◌, ◌++◌, map, length, get_or, take, drop, replicate, Some, sym, refl, ap, ◌∙◌, append_assoc, arith, length-append, length-drop}
+use Rattle.std.proofs.Common.{◌≡◌, ℕ, zero, suc, ◌+◌, ◌-◌, ◌*◌, ◌<◌, ◌≤◌, List, [], ◌∷◌, ◌++◌, map, length, get_or, take, drop, replicate, Some, sym, refl, ap, ◌∙◌, append_assoc, arith, length-append, length-drop}
 use Rattle.std.specs.List.{flat_map, AllByRecursion}
 use Rattle.std.specs.Option.{option_map}
 use Rattle.std.specs.Simd.{first_chunks}
-use Rattle.std.proofs.lemmas.List.{take-append-drop, take_at, drop_at, drop-drop, length-take-le, get_or_at}
+use Rattle.std.proofs.lemmas.List.{take-append-drop, take_at, drop_at, drop-drop, drop_more, length-take-le, get_or_at}
 use Rattle.key_class.specs.Class.{Growing, Coded}
 use Rattle.node.specs.Nodes.{Entry, entry_words, node_words}
 use Rattle.node.specs.Reading.{level_in, count_in, rows, entry_in}
@@ -13,6 +13,37 @@ pub first_rows : (k n : ℕ) (w : List ℕ) → k ≤ n → take k (first_chunks
 first_rows zero n w l = refl
 first_rows (suc k) zero w l = absurd (omega arith)
 first_rows (suc k) (suc n) w l = ap (λ rs. take 5 w ∷ rs) (first_rows k n (drop 5 w) (omega arith))
+
+-- The first of the rows that are left at i.
+pub groups_more : (n i : ℕ) (w : List ℕ) → i < n → first_chunks 5 (n - i) (drop (4 + 5 * i) w) ≡ take 5 (drop (4 + 5 * i) w) ∷ first_chunks 5 (n - (i + 1)) (drop (4 + 5 * (i + 1)) w)
+groups_more n i w l =
+    let e : n - i ≡ suc (n - (i + 1)) = omega arith in
+    let f : 4 + 5 * i + 5 ≡ 4 + 5 * (i + 1) = omega arith in
+    ap (λ m. first_chunks 5 m (drop (4 + 5 * i) w)) e
+    ∙ ap (λ v. take 5 (drop (4 + 5 * i) w) ∷ first_chunks 5 (n - (i + 1)) v) (drop-drop 5 (4 + 5 * i) w ∙ ap (λ m. drop m w) f)
+
+five_at : (w : List ℕ) (a : ℕ) → a + 5 ≤ length w → take 5 (drop a w) ≡ get_or w a 0 ∷ get_or w (a + 1) 0 ∷ get_or w (a + 2) 0 ∷ get_or w (a + 3) 0 ∷ get_or w (a + 4) 0 ∷ []
+five_at w a l =
+    let s1 : a + 1 + 1 ≡ a + 2 = omega arith in
+    let s2 : a + 2 + 1 ≡ a + 3 = omega arith in
+    let s3 : a + 3 + 1 ≡ a + 4 = omega arith in
+    let e0 = drop_more w a 0 (omega arith) in
+    let e1 = drop_more w (a + 1) 0 (omega arith) in
+    let e2 = drop_more w (a + 2) 0 (omega arith) in
+    let e3 = drop_more w (a + 3) 0 (omega arith) in
+    let e4 = drop_more w (a + 4) 0 (omega arith) in
+    let all : drop a w ≡ get_or w a 0 ∷ get_or w (a + 1) 0 ∷ get_or w (a + 2) 0 ∷ get_or w (a + 3) 0 ∷ get_or w (a + 4) 0 ∷ drop (a + 4 + 1) w = cc in
+    ap (take 5) all
+
+-- The words of the key of row i, and its link.
+pub row_key : (w : List ℕ) (i : ℕ) → 9 + 5 * i ≤ length w
+    → take 4 (take 5 (drop (4 + 5 * i) w)) ≡ get_or w (4 + 5 * i) 0 ∷ get_or w (4 + 5 * i + 1) 0 ∷ get_or w (4 + 5 * i + 2) 0 ∷ get_or w (4 + 5 * i + 3) 0 ∷ []
+row_key w i l = ap (take 4) (five_at w (4 + 5 * i) (omega arith))
+
+pub row_link : (w : List ℕ) (i : ℕ) → 9 + 5 * i ≤ length w → get_or (take 5 (drop (4 + 5 * i) w)) 4 0 ≡ get_or w (8 + 5 * i) 0
+row_link w i l =
+    let e : 4 + 5 * i + 4 ≡ 8 + 5 * i = omega arith in
+    ap (λ r. get_or r 4 0) (five_at w (4 + 5 * i) (omega arith)) ∙ ap (λ n. get_or w n 0) e
 
 -- The rows and what stands behind them.
 pub rows_joined : (n : ℕ) (v : List ℕ) → flat_map (λ r. r) (first_chunks 5 n v) ++ drop (5 * n) v ≡ v

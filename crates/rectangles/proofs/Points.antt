@@ -1,11 +1,13 @@
 -- The union is least, and what the tests of the class say of the points.
-use Rattle.std.proofs.Common.{◌≡◌, ◌↔◌, true, IsTrue, arith}
+use Rattle.std.proofs.Common.{◌≡◌, ◌↔◌, Bool, true, IsTrue, ap, sym, subst, ◌∙◌, arith}
 use Rattle.std.specs.Int.{int_max}
 use Rattle.std.proofs.lemmas.Int.{ints, clamps}
 use Rattle.rectangles.specs.declared.rectangle.Rectangle.{Rectangle}
-use Rattle.rectangles.specs.Rectangles.{covers, meets, union}
-use Rattle.rectangles.specs.Points.{Contains, Touch}
-use Rattle.rectangles.specs.Laws.{inner, covered, close, meeting}
+use Rattle.rectangles.specs.declared.rectangle.RectangleQuery.{RectangleQuery}
+use Rattle.rectangles.specs.declared.rectangle.RectangleQuery.TheVariants.{Meets, Inside, HoldsPoint}
+use Rattle.rectangles.specs.Rectangles.{covers, meets, union, matches}
+use Rattle.rectangles.specs.Points.{Contains, Touch, Fulfils}
+use Rattle.rectangles.specs.Laws.{inner, covered, close, meeting, holding, held}
 
 pub union_least : (a b u : Rectangle) → covers u a ≡ true → covers u b ≡ true → covers u (union a b) ≡ true
 union_least a b u h k =
@@ -41,3 +43,13 @@ meets_points a b = (
       )),
   (λ t. let p = t.2 in let q = t.3 in meeting a b (omega (arith, ints), omega (arith, ints), omega (arith, ints), omega (arith, ints))),
 )
+
+matches_points : (a : Rectangle) (q : RectangleQuery) → IsTrue (matches a q) ↔ Fulfils a q
+matches_points a (Meets q) = meets_points a q
+matches_points a (Inside q) = covers_points q a
+matches_points a (HoldsPoint x y) = (holding a x y, held a x y)
+
+pub matched : (a : Rectangle) (q p : RectangleQuery) (r : Bool) → q ≡ p → r ≡ matches a p → record { value : r ≡ matches a q; points : IsTrue r ↔ Fulfils a q }
+matched a q p r e h =
+    let v : r ≡ matches a q = h ∙ ap (matches a) (sym e) in
+    record { value = v; points = subst (λ t. IsTrue t ↔ Fulfils a q) (sym v) (matches_points a q) }

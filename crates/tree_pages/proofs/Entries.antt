@@ -76,6 +76,6 @@ module _ {K : Type 0} (G : Growing K) where
   same_key h k x [] e = absurd (none-some _ (sym e))
   same_key h k x (y ∷ ys) e = let a : joined G (keys (on_page h (y ∷ ys))) ≡ joined G (keys (y ∷ ys)) = ap (joined G) (keys_on_page h (y ∷ ys)) in cc
 
-  pub no_key : (es : List (Entry K ℕ)) → 1 ≤ length es → None ≡ joined G (keys es) → ⊥
+  pub no_key : {L : Type 0} (es : List (Entry K L)) → 1 ≤ length es → None ≡ joined G (keys es) → ⊥
   no_key [] l e = omega arith
   no_key (x ∷ es) l e = none-some _ e
