@@ -24,6 +24,13 @@ use Rattle.cursor.specs.declared.place.Place.{Place}
 abbrev pub EntryRead : {K : Type 0} → Growing K → Node → ℕ → Option (Entry K ℕ) → Type 0
 EntryRead {K} G n i r = (level : ℕ) (es : List (Entry K ℕ)) → Stands G n level es → r ≡ slice_get es i
 
+-- The entry at place i, which stands as e on its page.
+pub record Seen {K : Type 0} (h : ℕ) (es : List (Entry K (Link K h))) (i : ℕ) (e : Entry K ℕ) : Type 0 where
+  pub it : Entry K (Link K h)
+  pub there : slice_get es i ≡ Some it
+  pub left : drop i es ≡ it ∷ drop (i + 1) es
+  pub stands : record { key = it.key; link = link_number K h it.link } ≡ e
+
 -- The entry at place p stands as e on its page: what p gives is what this entry gives, and what the places after it give.
 pub record Passed {K Q : Type 0} (C : Class K Q) (s : Pages) (q : Q) (e : Entry K ℕ) (h : ℕ) (p : Place) (ps : List Place) (todo : List (Entry K ℕ)) : Type 0 where
   pub tree : Tree K h
@@ -64,22 +71,27 @@ module _ {K Q : Type 0} {C : Class K Q} {s : Pages} {q : Q} (n : Node) {p : Plac
         cc
 
     module _ {e : Entry K ℕ} (read : EntryRead G n p.next (Some e)) where
-      passed : (h : ℕ) (ps : List Place) (todo : List (Entry K ℕ)) → Pending C s q h (p ∷ ps) todo → Passed C s q e h p ps todo
-      passed h ps todo pend =
-          let gv = pend.2 in
+      seen : (h : ℕ) (l : List (Entry K ℕ)) (gv : Gives C s q h p l) → Seen h gv.tree.entries p.next e
+      seen h l gv =
           let es : List (Entry K (Link K h)) = gv.tree.entries in
           let at = here es p.next (omega (arith, many gv)) in
           let on : Entry K (Link K h) → Entry K ℕ = λ v. record { key = v.key; link = link_number K h v.link } in
           let st = subst (λ H. Stands H n (suc h) (on_page h es)) tied (stands gv) in
           let same : Some e ≡ Some (on at.it) = read (suc h) (on_page h es) st ∙ slice_get-map on es p.next ∙ ap (option_map on) at.there in
+          record { it = at.it; there = at.there; left = at.left; stands = cc }
+
+      passed : (h : ℕ) (ps : List Place) (todo : List (Entry K ℕ)) → Pending C s q h (p ∷ ps) todo → Passed C s q e h p ps todo
+      passed h ps todo pend =
+          let gv = pend.2 in
+          let at = seen h pend.0 gv in
           let f = found_at C q h at.it in
-          let l : List (Entry K ℕ) = flat_map (found_at C q h) (drop (p.next + 1) es) in
+          let l : List (Entry K ℕ) = flat_map (found_at C q h) (drop (p.next + 1) gv.tree.entries) in
           record {
             tree = gv.tree;
             lies = gv.lies;
             it = at.it;
             there = at.there;
-            stands = cc;
+            stands = at.stands;
             rest = l ++ pend.1;
             is = pend.4 ∙ ap (λ v. v ++ pend.1) (gv.gives ∙ ap (flat_map (found_at C q h)) at.left) ∙ append_assoc f l pend.1;
             pending = (l, pend.1, record { tree = gv.tree; lies = gv.lies; on = gv.on; gives = refl }, pend.3, refl);

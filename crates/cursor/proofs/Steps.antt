@@ -37,30 +37,36 @@ one_entry n c l =
     let e : 12 - n ≡ (12 - (n + 1)) + 1 = omega arith in
     ap (λ m. m * c) e ∙ add-mul (12 - (n + 1)) 1 c ∙ ap (λ m. (12 - (n + 1)) * c + m) (one-mul c)
 
--- From w, which is at place p.
-module _ {w : Way} {p : Place} {ps : List Place} (is : ahead w ≡ p ∷ ps) where
-  pub fewer_on_page : {v : Way} → p.next < 12 → Put w v (after p) → steps_ahead v < steps_ahead w
-  fewer_on_page {v = v} l put =
-      let to = put.places p ps is in
-      let same = put.height in
+-- From w, which is at place p, a step leads to v.
+module _ (w v : Way) (p : Place) (ps : List Place) (is : ahead w ≡ p ∷ ps) where
+  pub fewer_after : p.next < 12 → v.height ≡ w.height → ahead v ≡ after p ∷ ps → steps_ahead v < steps_ahead w
+  fewer_after l same to =
       let a : steps_ahead v ≡ steps_left w.height (after p ∷ ps) = cc in
       let b = one_entry p.next (entry_steps w.height) l in
       let c = some_steps w.height in
       omega (arith, ap (steps_left w.height) is)
 
-  pub fewer_above : {v : Way} → Popped w v → steps_ahead v < steps_ahead w
-  fewer_above {v = v} pop =
-      let up = pop.above p ps is in
-      let u : v.height ≡ suc w.height = omega (arith, up.0) in
-      let to = up.1 in
+  pub fewer_up : v.height ≡ w.height + 1 → ahead v ≡ ps → steps_ahead v < steps_ahead w
+  fewer_up up to =
+      let u : v.height ≡ suc w.height = omega arith in
       let a : steps_ahead v ≡ steps_left (suc w.height) ps = cc in
       omega (arith, ap (steps_left w.height) is)
 
-  pub fewer_below : {u v : Way} {page : ℕ} → p.next < 12 → Put w u (after p) → Pushed u v page → steps_ahead v < steps_ahead w
-  fewer_below {u = u} {v = v} {page = page} l put push =
-      let up : w.height ≡ suc v.height = omega (arith, put.height, push.height) in
-      let b : steps_left w.height (p ∷ ps) ≡ steps_left (suc v.height) (p ∷ ps) = ap (λ h. steps_left h (p ∷ ps)) up in
-      let to : ahead v ≡ first_of page ∷ after p ∷ ps = push.places ∙ ap (λ r. first_of page ∷ r) (put.places p ps is) in
+  pub fewer_down : (page : ℕ) → p.next < 12 → v.height + 1 ≡ w.height → ahead v ≡ first_of page ∷ after p ∷ ps → steps_ahead v < steps_ahead w
+  fewer_down page l down to =
+      let u : w.height ≡ suc v.height = omega arith in
+      let b : steps_left w.height (p ∷ ps) ≡ steps_left (suc v.height) (p ∷ ps) = ap (λ h. steps_left h (p ∷ ps)) u in
       let a : steps_ahead v ≡ steps_left v.height (first_of page ∷ after p ∷ ps) = ap (steps_left v.height) to in
       let c = one_entry p.next (entry_steps (suc v.height)) l in
       omega (arith, ap (steps_left w.height) is)
+
+module _ {w : Way} {p : Place} {ps : List Place} (is : ahead w ≡ p ∷ ps) where
+  pub fewer_on_page : {v : Way} → p.next < 12 → Put w v (after p) → steps_ahead v < steps_ahead w
+  fewer_on_page {v = v} l put = fewer_after w v p ps is l put.height (put.places p ps is)
+
+  pub fewer_above : {v : Way} → Popped w v → steps_ahead v < steps_ahead w
+  fewer_above {v = v} pop = let up = pop.above p ps is in fewer_up w v p ps is up.0 up.1
+
+  pub fewer_below : {u v : Way} {page : ℕ} → p.next < 12 → Put w u (after p) → Pushed u v page → steps_ahead v < steps_ahead w
+  fewer_below {v = v} {page = page} l put push =
+      fewer_down w v p ps is page l (omega (arith, put.height, push.height)) (push.places ∙ ap (λ r. first_of page ∷ r) (put.places p ps is))

@@ -15,7 +15,7 @@ use Rattle.tree_pages.specs.Laid.{start_of}
 use Rattle.tree_pages.specs.declared.root.Root.{Root}
 use Rattle.tree_pages.proofs.Lying.{lies_root, lies_none}
 use Rattle.cursor.specs.Ways.{ahead, first_of, Started}
-use Rattle.cursor.specs.Awaits.{Gives, Pending, Awaits, Starts, Nexts, Falls, left_to_do}
+use Rattle.cursor.specs.Awaits.{Gives, Pending, Holds, Awaits, Starts, Nexts, Falls, left_to_do}
 use Rattle.cursor.specs.Looks.{Loads}
 use Rattle.cursor.specs.declared.place.Place.{Place}
 use Rattle.cursor.specs.declared.way.Way.{Way}
@@ -40,17 +40,43 @@ module _ {K Q : Type 0} (C : Class K Q) where
   pub record Carried (s : Pages) (q : Q) (x y : Cursor) : Type 0 where
     pub says : (todo : List (Entry K ℕ)) → Awaits C s q x todo → Awaits C s q y todo
 
-  -- A page that is awaited can be read.
+  -- And y has the node of the page in hand.
+  pub record Ready (s : Pages) (q : Q) (x y : Cursor) : Type 0 where
+    pub carried : Carried s q x y
+    pub node : (todo : List (Entry K ℕ)) → Awaits C s q x todo → y.node ≡ None → ⊥
+
+  module _ (s : Pages) (q : Q) (p : Place) (ps : List Place) where
+    holds_still : (o m : Option Node) → Loads s p.page o m → Holds s (p ∷ ps) o → Holds s (p ∷ ps) m
+    holds_still None None l h = tt
+    holds_still None (Some n) l h = l
+    holds_still (Some n) m l h = subst (Holds s (p ∷ ps)) (sym l) h
+
+    holds_some : (h : ℕ) (todo : List (Entry K ℕ)) → Pending C s q h (p ∷ ps) todo → (o m : Option Node) → Loads s p.page o m → m ≡ None → ⊥
+    holds_some h todo pend None m l e =
+        let g = pend.2 in
+        lies_none C.growing s h g.tree g.lies (ap (option_map words_in) (sym e) ∙ l ∙ ap (loaded s) (sym g.on))
+    holds_some h todo pend (Some n) m l e = cc
+
+    pub ready : (x y z : Cursor) → ahead y.way ≡ p ∷ ps → z.way ≡ y.way → Loads s p.page y.node z.node → Carried s q x y → Ready s q x z
+    ready x y z is same load carried = record {
+      carried = record {
+        says = λ todo a.
+            let b = carried.says todo a in
+            awaits C s q y.way.height (p ∷ ps) z.way z.node todo (ap (λ v. v.height) same) (ap ahead same ∙ is)
+            (subst (λ l. Pending C s q y.way.height l todo) is b.pending)
+            (holds_still y.node z.node load (subst (λ l. Holds s l y.node) is b.holds));
+      };
+      node = λ todo a. holds_some y.way.height todo (subst (λ l. Pending C s q y.way.height l todo) is (carried.says todo a).pending) y.node z.node load;
+    }
+
+  -- Each page that is awaited can be read.
+  pub not_unread : {s : Pages} {q : Q} {x y z : Cursor} → Ready s q x y → y.node ≡ None → Nexts C s q x z None
+  not_unread r none = record { says = λ todo a. absurd (r.node todo a none) }
+
   pub unread : {s t : Pages} {q : Q} {x y z : Cursor} {p : Place} {ps : List Place} {o : Option Node} → Carried s q x y → ahead y.way ≡ p ∷ ps
       → t ≡ s → Loads t p.page y.node o → o ≡ None → Nexts C s q x z None
-  unread {s = s} {q = q} {y = y} {p = p} {ps = ps} {o = o} carried is same load none =
-      record { says = λ todo a. absurd (never y.node o (subst (λ v. Loads v p.page y.node o) same load) none todo (subst (λ l. Pending C s q y.way.height l todo) is (carried.says todo a).pending)) }
-    where
-      never : (m o : Option Node) → Loads s p.page m o → o ≡ None → (todo : List (Entry K ℕ)) → Pending C s q y.way.height (p ∷ ps) todo → ⊥
-      never None o l e todo pend =
-          let g = pend.2 in
-          lies_none C.growing s y.way.height g.tree g.lies (ap (option_map words_in) (sym e) ∙ l ∙ ap (loaded s) (sym g.on))
-      never (Some n) o l e todo pend = cc
+  unread {s = s} {q = q} {x = x} {y = y} {p = p} {ps = ps} {o = o} carried is same load none =
+      not_unread {y = record { way = y.way; node = o }} (ready s q p ps x y (record { way = y.way; node = o }) is refl (subst (λ v. Loads v p.page y.node o) same load) carried) none
 
 -- After none, none: a call that has nothing left to do gives none.
 pub none_again : {K : Type 0} (x y : Cursor) (r : Option (Found K)) → left_to_do x ≡ 0 → Falls x y r → r ≡ None

@@ -22,9 +22,9 @@ pub taken : {s t : Pages} {w : Words} {p : ℕ} (r : Result ℕ StoreRefusal) �
 taken {s} {t} {w} {p} (Ok q) e h = let same : p ≡ q = cc in rw same h
 taken {s} {t} {w} {p} (Err x) e h = cc
 
-pub level_is : {K : Type 0} (G : Growing K) (n : Node) (level : ℕ) (es : List (Entry K ℕ)) → Stands G n level es → level_in (words_in n) ≡ level
+pub level_is : {K : Type 0} (G : Growing K) (w : Words) (level : ℕ) (es : List (Entry K ℕ)) → w ≡ node_words G level es → level_in w ≡ level
 unfolding node_words
-level_is G n level es st = ap level_in st
+level_is G w level es is = ap level_in is
 
 module _ {K : Type 0} {G : Growing K} where
   pub saved : {s t : Pages} {p : ℕ} {n : Node} {k : K} (level : ℕ) (es : List (Entry K ℕ)) → Stands G n level es → length es ≤ 12 → Held s p → Saves G s t p n (Some k)

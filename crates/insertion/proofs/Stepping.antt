@@ -38,6 +38,9 @@ pub data Asked (a : Above) (s : Pages) (n : Node) : Type 0 where
   of_full : leb 12 (count_in (words_in n)) ≡ true → FullLeaf a s (Ok tt) → Asked a s n
   of_none : leb 12 (count_in (words_in n)) ≡ false → Asked a s n
 
+link_at : {K : Type 0} (h : ℕ) (es : List (Entry K (Link K h))) (i : ℕ) (e : Entry K (Link K h)) → slice_get es i ≡ Some e → option_map (λ x. x.link) (slice_get (on_page h es) i) ≡ Some (link_number K h e.link)
+link_at {K} h es i e n = link_on_page h es i ∙ ap (option_map (λ x. link_number K h x.link)) n
+
 -- A node, as it was read from its page.
 module _ {K : Type 0} (G : Growing K) (s : Pages) (node : Node) (h : ℕ) (u : Tree K h) (lies : Lies G s h u) (read : Some (words_in node) ≡ loaded s u.page) where
   stands : Stands G node (suc h) (on_page h u.entries)
@@ -54,9 +57,6 @@ module _ {K : Type 0} (G : Growing K) (s : Pages) (node : Node) (h : ℕ) (u : T
     entry_at : (e : Entry K (Link K h)) × (slice_get u.entries i ≡ Some e)
     entry_at = nth_there u.entries i (rw place_is (within G k u.entries (omega (arith, lies.size))))
 
-    link_at : (e : Entry K (Link K h)) → slice_get u.entries i ≡ Some e → option_map (λ x. x.link) (slice_get (on_page h u.entries) i) ≡ Some (link_number K h e.link)
-    link_at e n = link_on_page h u.entries i ∙ ap (option_map (λ x. link_number K h x.link)) n
-
 -- The child there, and the way of the key above it.
 module _ {K Q : Type 0} (C : Class K Q) (s : Pages) (node : Node) (h : ℕ) (u : Tree K (suc h)) (lies : Lies C.growing s (suc h) u) (read : Some (words_in node) ≡ loaded s u.page)
     (k : K) (i : ℕ) (least_is : (level : ℕ) (es : List (Entry K ℕ)) → Stands C.growing node level es → Some i ≡ least_place C.growing k es)
@@ -67,7 +67,7 @@ module _ {K Q : Type 0} (C : Class K Q) (s : Pages) (node : Node) (h : ℕ) (u :
 
   child_is : child ≡ e.link.page
   child_is =
-      let x : Some child ≡ Some e.link.page = link_is (suc (suc h)) (on_page (suc h) u.entries) (stands G s node (suc h) u lies read) ∙ link_at G s node (suc h) u lies read k i least_is e there in
+      let x : Some child ≡ Some e.link.page = link_is (suc (suc h)) (on_page (suc h) u.entries) (stands G s node (suc h) u lies read) ∙ link_at (suc h) u.entries i e there in
       cc
 
   -- The way of the key goes on in the child.
@@ -76,17 +76,20 @@ module _ {K Q : Type 0} (C : Class K Q) (s : Pages) (node : Node) (h : ℕ) (u :
       ap (λ (o : Option (Entry K (Tree K h))). (way_by h (way_under G k h) o ++ step u ∷ []) ++ steps) (ap (slice_get u.entries) (sym (place_is G s node (suc h) u lies read k i least_is)) ∙ there)
       ∙ append_assoc (way_under G k h e.link) (step u ∷ []) steps
 
-  -- What came of the child.
-  outcome_below : (level : ℕ) (a b : Above) (steps : List Step) (n : ℕ) (m : Pages) (q : Result (Change K) InsertRefusal)
-      → ((r : ℕ) → a.run ≡ r → r + 1 < 2 ^ 32 → b ≡ record { run = cond (leb 12 (count_in (words_in node))) (1 + r) 0; levels = a.levels })
-      → level ≡ suc (suc h) → Knows a level steps → InsertsUnder C s m child (level - 1) b k n q → Outcome C s m k n h e.link (way_under G k h e.link ++ step u ∷ steps) q
-  outcome_below level a b steps n m q below_is lev kn under =
-      let is = below_is (splits steps) kn.run (omega (arith, splits_within steps, kn.levels, kn.low)) in
-      under.says h e.link (step u ∷ steps) (lies_below G s h u i e lies there) (sym child_is) (omega arith) (record {
-        run = ap (λ (x : Above). x.run) is ∙ ap (λ (m : ℕ). cond (leb 12 m) (1 + splits steps) 0) (count G s node (suc h) u lies read);
-        levels = ap (λ (x : Above). x.levels) is ∙ omega (arith, kn.levels);
-        low = omega (arith, kn.low, ap (λ (x : Above). x.levels) is);
-      })
+  -- What is known of the way above the child, and what came of it.
+  module _ (level : ℕ) (a b : Above) (below_is : (r : ℕ) → a.run ≡ r → r + 1 < 2 ^ 32 → b ≡ record { run = cond (leb 12 (count_in (words_in node))) (1 + r) 0; levels = a.levels })
+      (steps : List Step) (lev : level ≡ suc (suc h)) (kn : Knows a level steps) where
+    knows_below : Knows b (level - 1) (step u ∷ steps)
+    knows_below =
+        let is = below_is (splits steps) kn.run (omega (arith, splits_within steps, kn.levels, kn.low)) in
+        record {
+          run = ap (λ (x : Above). x.run) is ∙ ap (λ (m : ℕ). cond (leb 12 m) (1 + splits steps) 0) (count G s node (suc h) u lies read);
+          levels = ap (λ (x : Above). x.levels) is ∙ omega (arith, kn.levels);
+          low = omega (arith, kn.low, ap (λ (x : Above). x.levels) is);
+        }
+
+    outcome_below : (n : ℕ) (m : Pages) (q : Result (Change K) InsertRefusal) → InsertsUnder C s m child (level - 1) b k n q → Outcome C s m k n h e.link (way_under G k h e.link ++ step u ∷ steps) q
+    outcome_below n m q under = under.says h e.link (step u ∷ steps) (lies_below G s h u i e lies there) (sym child_is) (omega arith) knows_below
 
 module _ {K Q : Type 0} {C : Class K Q} {s t : Pages} {p level : ℕ} {a : Above} {k : K} {n : ℕ} where
   -- The page is always read.
@@ -150,7 +153,7 @@ module _ {K Q : Type 0} {C : Class K Q} {s t : Pages} {p level : ℕ} {a : Above
         says = λ h u steps lies on lev kn.
             let here : Some (words_in node) ≡ loaded s u.page = rw on read in
             let x = entry_at C.growing s node h u lies here k i least_is in
-            absurd (none-some _ (f (suc h) (on_page h u.entries) (stands C.growing s node h u lies here) ∙ link_at C.growing s node h u lies here k i least_is x.0 x.1));
+            absurd (none-some _ (f (suc h) (on_page h u.entries) (stands C.growing s node h u lies here) ∙ link_at h u.entries i x.0 x.1));
       }
 
       module _ (child : ℕ) (b : Above) (deep : 1 < level)
@@ -161,13 +164,13 @@ module _ {K Q : Type 0} {C : Class K Q} {s t : Pages} {p level : ℕ} {a : Above
             let here : Some (words_in node) ≡ loaded s u.page = rw on read in
             let x = entry_at C.growing s node (suc h) u lies here k i least_is in
             rw (way_is C s node h u lies here k i least_is child link_is x.0 x.1 steps)
-            (outcome_below C s node h u lies here k i least_is child link_is x.0 x.1 level a b steps n t (Err e) below_is lev kn under))
+            (outcome_below C s node h u lies here k i least_is child link_is x.0 x.1 level a b below_is steps lev kn n t (Err e) under))
 
         pub done_below : Lawful C → {m : Pages} {c : Change K} (r : Option (Change K)) → InsertsUnder C s m child (level - 1) b k n (Ok c) → Regrows C.growing C m t p node i child c r → InsertsUnder C s t p level a k n (ok_or r NotATree)
         done_below law {m} {c} r under regrows = above_leaves deep (λ h u steps lies on lev kn.
             let here : Some (words_in node) ≡ loaded s u.page = rw on read in
             let x = entry_at C.growing s node (suc h) u lies here k i least_is in
-            let o = outcome_below C s node h u lies here k i least_is child link_is x.0 x.1 level a b steps n m (Ok c) below_is lev kn under in
+            let o = outcome_below C s node h u lies here k i least_is child link_is x.0 x.1 level a b below_is steps lev kn n m (Ok c) under in
             let size = length_on_page (suc h) u.entries in
             let least = place_is C.growing s node (suc h) u lies here k i least_is in
             let room = room_for C law s m k n h x.0.link c (lies_below C.growing s h u i x.0 lies x.1) o.1 u.page (step u) steps (length u.entries) (ap is_some lies.words.0) refl lies.size.0 lies.size.1 o.0 in

@@ -1,12 +1,14 @@
 -- What the loop of the split has done with the first words of the first i keys.
-use Rattle.std.proofs.Common.{◌≡◌, ℕ, ◌+◌, ◌<◌, Bool, List, [], ◌∷◌, ◌++◌, map, length, get_or, set, take, drop, count_by, if◌then◌else◌, nat_le, nat_lt, slice_index, slice_index_or, refl, sym, ap, ap₂, ◌∙◌, append-nil, arith}
+use Rattle.std.proofs.Common.{◌≡◌, ℕ, ◌+◌, ◌-◌, ◌<◌, Bool, List, [], ◌∷◌, ◌++◌, map, length, get_or, set, take, drop, count_by, if◌then◌else◌, nat_le, nat_lt, slice_index, slice_index_or, refl, sym, ap, ap₂, ◌∙◌, append-nil, arith}
 use Rattle.std.proofs.lemmas.Simd.{map-map}
-use Rattle.std.proofs.lemmas.List.{take_more, take_more_set, get_or-map, at_drop_more, at_drop_all, append_assoc, take-map, drop-map, length-map, take_all, take_at}
+use Rattle.std.proofs.Math.Nat.{sub-zero}
+use Rattle.std.proofs.lemmas.List.{take_more, take_more_set, get_or-map, at_drop_more, at_drop_all, append_assoc, take-map, drop-map, take_rest, length-map, take_all, take_at}
 use Rattle.std.proofs.lemmas.List.Sums.{sum_by-cons}
 use Rattle.key_class.specs.Class.{Squeezed}
 use Rattle.intervals.specs.declared.interval.Interval.{Interval}
 use Rattle.intervals.specs.Intervals.{squeeze, interval_growing}
 use Rattle.intervals.specs.Ranks.{ranks_from, by_rank}
+use Rattle.intervals.specs.Ranking.{below}
 
 abbrev low : List ℕ → ℕ
 low w = slice_index w 0
@@ -35,6 +37,17 @@ rank_lows ws i h =
     ap₂ ◌+◌ (sym (count_lows (λ y. nat_le y x) (take i ws)) ∙ ap (count_by (λ y. nat_le y x)) (sym (take-map low i ws)))
     (sym (count_lows (λ y. nat_lt y x) (drop (i + 1) ws)) ∙ ap (count_by (λ y. nat_lt y x)) (sym (drop-map low (i + 1) ws)))
     ∙ ap (rank (lows ws) i) (sym (get_or-map low ws i [] 0 h))
+
+pub rank_parts : (ws : List (List ℕ)) (i x a b : ℕ) → i < length ws → x ≡ slice_index (slice_index_or ws i []) 0
+    → a ≡ below (x + 1) (lows (take (i - 0) ws)) → b ≡ below x (lows (take (length ws - (i + 1)) (drop (i + 1) ws)))
+    → a + b ≡ below (slice_index (lows ws) i + 1) (take i (lows ws)) + below (slice_index (lows ws) i) (drop (i + 1) (lows ws))
+rank_parts ws i x a b h w e f =
+    let g = get_or-map low ws i [] 0 h in
+    let m = take-map low i ws in
+    let d = drop-map low (i + 1) ws in
+    let z = sub-zero i in
+    let t = take_rest ws (i + 1) in
+    cc
 
 pub marks_more : (half : ℕ) (goes : List Bool) (xs : List ℕ) (i r : ℕ) → i < length xs → i < length goes → r ≡ rank xs i (slice_index xs i)
     → take (i + 1) (set goes i (nat_le half r)) ++ map (nat_le half) (ranks_from (take (i + 1) xs) (drop (i + 1) xs)) ≡ take i goes ++ map (nat_le half) (ranks_from (take i xs) (drop i xs))

@@ -8,7 +8,7 @@ use Rattle.key_class.specs.declared.groups.Seeds.{Seeds}
 use Rattle.key_class.specs.Class.{Growing}
 use Rattle.key_class.specs.Quadratic.{larger_growth, worse, worst_after, worst_from, size, goes_next, placed, mark, next, marks_from, begun, split_at, quadratic, seeds_of}
 use Rattle.key_class.proofs.Coding.{drop_at}
-use Rattle.key_class.proofs.Sharing.{Fair, fair_begun, fair_on, turn}
+use Rattle.key_class.proofs.Sharing.{Within, seeds_within, Fair, fair_begun, fair_on, turn}
 
 -- The first n marks before the loop.
 one_true : (n j q : ℕ) → n ≤ 15 → j < n → q < n → get_or (take n (set (replicate 15 false) j true)) q false ≡ (q == j)
@@ -67,6 +67,13 @@ module _ {K : Type 0} (G : Growing K) where
   begin {s} (k ∷ ks) a b at to e =
       ap₂ (λ x y. marks_from G s 0 (begun x y (length (k ∷ ks))) (k ∷ ks)) (sym (get_or_from_slice_get (k ∷ ks) s.first a k at)) (sym (get_or_from_slice_get (k ∷ ks) s.second b k to))
       ∙ ap (λ t. split_at G k t (k ∷ ks)) e
+
+  pub marks_begin : (ks : List K) (s : Seeds) (a b : K) (n : ℕ) → 2 ≤ length ks → s ≡ seeds_of G ks → a ≡ get_or ks s.first a → b ≡ get_or ks s.second b → length ks ≡ n
+      → marks_from G s 0 (begun a b n) ks ≡ quadratic G ks
+  marks_begin ks s a b n l e f g m =
+      let w : Within (length ks) s = subst (Within (length ks)) (sym e) (seeds_within G ks l) in
+      ap (λ i. marks_from G s 0 (begun a b i) ks) (sym m)
+      ∙ begin ks a b (slice_get-get_or ks s.first a (omega (arith, w.ordered, w.below)) ∙ ap Some (sym f)) (slice_get-get_or ks s.second b w.below ∙ ap Some (sym g)) e
 
   module _ (s : Seeds) (ks : List K) (w : (s.first < s.second) × (s.second < length ks)) where
     marked_on : (p : ℕ) (g g' : Groups K) (marks marks' : List Bool) (k : K) (b : Bool) → Marked s ks p g marks → slice_get ks p ≡ Some k

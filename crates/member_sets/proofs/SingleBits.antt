@@ -1,6 +1,6 @@
 -- Words by their bits: what `&`, `!`, a test for 0 and the count of ones say of the 32 bits.
 use Rattle.std.proofs.Common.{◌≡◌, ℕ, zero, suc, ◌+◌, ◌/◌, ◌%◌, ◌^◌, ◌<◌, Bool, true, false, if◌then◌else◌, not, ◌&&◌, ◌||◌, eqb, sym, ap, ◌∙◌, ap₂, ⊎_elim, pow-suc, one-add, arith}
-use lib.Bits.{bit_and, and_le_r}
+use lib.Bits.{bit_and, bit_xor, and_le_r, xor_lt}
 use Rattle.std.specs.Int.{bit_not, w32}
 use lib.Count.{ones, ones_step, ones-le}
 use Rattle.std.proofs.lemmas.Nat.Bits.{bit_at-lt, bit_at-suc, bit_at-zero, bit_at_lowest, same_from_bits_below}
@@ -9,7 +9,7 @@ use Rattle.std.proofs.lemmas.Bool.{cases_Bool, both_ways, and_parts}
 use Rattle.std.proofs.lemmas.Bool.Decides.{same_from_decides, Decides-eqb, Decides-like, Decides-not, nat_tests}
 use Rattle.member_sets.specs.declared.members.Members.{Members}
 use Rattle.member_sets.specs.Members.{bit, all_below, some_below, count_below, has_member}
-use Rattle.member_sets.specs.BitLaws.{bit-bit_and, bit-bit_not}
+use Rattle.member_sets.specs.BitLaws.{bit-bit_and, bit-bit_xor, bit-bit_not}
 use Rattle.member_sets.specs.Below.{within_tells, some_tells}
 use Rattle.member_sets.proofs.ByWords.{some_joins, count_joins, same_below, below_add, by_words}
 
@@ -65,6 +65,13 @@ meet_is a b h =
 -- What is in y and not in both is in y and not in x.
 lacks : (x y : Bool) → (if y then not (x && y) else x && y) ≡ (y && not x)
 lacks x y = grind arith
+
+pub lacking_by_xor : (a b : ℕ) → b < 2 ^ 32 → ones (bit_xor b (bit_and a b)) ≡ count_below 32 (λ i. bit b i && not (bit a i))
+lacking_by_xor a b h =
+    let l = and_le_r a b in
+    ones_bits 32 (bit_xor b (bit_and a b)) (xor_lt 32 b (bit_and a b) h (omega arith))
+    ∙ same_below count_joins 32 (bit (bit_xor b (bit_and a b))) (λ i. bit b i && not (bit a i))
+    (λ i k. bit-bit_xor b (bit_and a b) i ∙ ap (λ x. if bit b i then not x else x) (bit-bit_and a b i) ∙ lacks (bit a i) (bit b i))
 
 pub lacking_is : (a b : ℕ) → a < 2 ^ 32 → b < 2 ^ 32 → ones (bit_and b (bit_not w32 a)) ≡ count_below 32 (λ i. bit b i && not (bit a i))
 lacking_is a b h k =

@@ -3,14 +3,14 @@ use Rattle.std.proofs.Common.{◌≡◌, ℕ, suc, ◌+◌, ◌-◌, ◌*◌, �
 use borrow.Rule.Slice.PartMut.{put_mid}
 use Rattle.std.specs.List.{copy_within, flat_map}
 use Rattle.std.proofs.lemmas.List.Edits.{length-remove}
-use Rattle.std.proofs.lemmas.Option.{slice_get_within, get_or_from_slice_get}
+use Rattle.std.proofs.lemmas.Option.{slice_get_within}
 use Rattle.std.proofs.lemmas.Bool.{lt-ltb}
 use Rattle.std.proofs.lemmas.List.{take_all, take_at, drop_all, drop-drop, drop_more, drop-replicate, get_or_append_left, get_or-take, length-drop, length_push, length-set, length-take-le, take_more, set-append_right, set_split, replicate-append-replicate}
 use Rattle.key_class.specs.Class.{Growing, Coded}
 use Rattle.node.specs.Nodes.{Entry, entry_words, node_words, without}
 use Rattle.node.specs.Reading.{count_in}
 use Rattle.node.specs.InMemory.{with_row, pushed_row}
-use Rattle.node.proofs.Places.{EntryAt, zeros, laid, front, node_laid, laid_append, count_is, words_before, words_from}
+use Rattle.node.proofs.Places.{EntryAt, taken, zeros, laid, front, node_laid, laid_append, count_is, words_before, words_from}
 
 -- The first four words of a row are copied to place i, and its last word is written behind them.
 pub put_words : (w part row : List ℕ) (i : ℕ) → length w ≡ 64 → length row ≡ 5 → part ≡ take 4 row → i < 12
@@ -155,9 +155,8 @@ module _ {K : Type 0} {G : Growing K} (C : Coded G) where
       let l = slice_get_within fs i t.it t.there in
       let m = length-take-le i fs (omega arith) in
       let n = length-append es (take i fs) in
-      let next : take (i + 1) fs ≡ take i fs ++ t.it ∷ [] = take_more fs i t.it l ∙ ap (λ (e : Entry K ℕ). take i fs ++ e ∷ []) (get_or_from_slice_get fs i t.it t.it t.there) in
       pushed_within level (es ++ take i fs) w is (omega arith) t.it row t.rowed u r room push
-      ∙ ap (node_words G level) (append_assoc es (take i fs) (t.it ∷ []) ∙ ap (λ (xs : List (Entry K ℕ)). es ++ xs) (sym next))
+      ∙ ap (node_words G level) (append_assoc es (take i fs) (t.it ∷ []) ∙ ap (λ (xs : List (Entry K ℕ)). es ++ xs) (sym (taken fs i row t)))
 
   pub removed : (level : ℕ) (es : List (Entry K ℕ)) (w : List ℕ) → w ≡ node_words G level es → length w ≡ 64 → (i : ℕ) → i < length es → length es ≤ 12
       → (v : List ℕ) (s d : ℕ) → s ≡ 4 + 5 * (i + 1) → d ≡ 4 + 5 * i → v ≡ copy_within w s (length w) d

@@ -2,9 +2,9 @@
 use Rattle.std.proofs.Common.{◌≡◌, ℕ, zero, suc, ◌+◌, ◌-◌, ◌*◌, ◌<◌, ◌≤◌, List, [], ◌∷◌, ◌++◌, map, length, get_or, take, drop, replicate, Some, None, Option, sym, refl, ap, ◌∙◌, append_assoc, arith}
 use Rattle.std.specs.Option.{option_map}
 use Rattle.std.specs.List.{flat_map, slice_get}
-use Rattle.std.proofs.lemmas.Option.{slice_get-map}
+use Rattle.std.proofs.lemmas.Option.{slice_get-map, slice_get_within, get_or_from_slice_get}
 use Rattle.std.proofs.lemmas.Grind.{flat_map-append}
-use Rattle.std.proofs.lemmas.List.{take-append-drop, take_at, drop_at, get_or-drop, length-take-le}
+use Rattle.std.proofs.lemmas.List.{take-append-drop, take_at, take_more, drop_at, get_or-drop, length-take-le}
 use Rattle.key_class.specs.Class.{Growing, Coded}
 use Rattle.node.specs.Nodes.{Entry, entry_words, node_words}
 use Rattle.node.specs.Reading.{rows, entry_in}
@@ -85,6 +85,9 @@ pub record EntryAt {K : Type 0} (G : Growing K) (es : List (Entry K ℕ)) (i : �
   pub there : slice_get es i ≡ Some it
   pub rowed : r ≡ entry_words G it
 
+pub taken : {K : Type 0} {G : Growing K} (es : List (Entry K ℕ)) (i : ℕ) (r : List ℕ) (t : EntryAt G es i r) → take (i + 1) es ≡ take i es ++ t.it ∷ []
+taken {K} es i r t = take_more es i t.it (slice_get_within es i t.it t.there) ∙ ap (λ (e : Entry K ℕ). take i es ++ e ∷ []) (get_or_from_slice_get es i t.it t.it t.there)
+
 module _ {K : Type 0} {G : Growing K} (C : Coded G) where
   pub length_front : (level n : ℕ) (es : List (Entry K ℕ)) (i : ℕ) → i ≤ length es → length (front G level n (take i es)) ≡ 4 + 5 * i
   length_front level n es i l = omega (arith, length_entries C (take i es), length-take-le i es l)
@@ -147,3 +150,27 @@ module _ {K : Type 0} {G : Growing K} (C : Coded G) where
   link_at level es w is i r h =
       let t = at_place level es w is i r h in
       ap (λ (u : List ℕ). Some (get_or u 4 0)) t.rowed ∙ ap Some (link_part C t.it) ∙ ap (option_map (λ e. e.link)) (sym t.there)
+
+  -- The same of the words of the page, by their places in it.
+  pub words_at : (level : ℕ) (es : List (Entry K ℕ)) (w : List ℕ) → w ≡ node_words G level es → (i : ℕ) → i < length es → (h : Here es i)
+      → Five w (4 + 5 * i) (G.squeeze h.it.key) h.it.link
+  words_at level es w is i l h =
+      let rest : List ℕ = flat_map (entry_words G) (drop (i + 1) es) in
+      five_at w (4 + 5 * i) (G.squeeze h.it.key) (rest ++ zeros (length es)) h.it.link (C.four_words h.it.key)
+      (words_from level es w is i (omega arith)
+      ∙ ap (λ (xs : List (Entry K ℕ)). flat_map (entry_words G) xs ++ zeros (length es)) h.left
+      ∙ append_assoc (entry_words G h.it) rest (zeros (length es))
+      ∙ append_assoc (G.squeeze h.it.key) (h.it.link ∷ []) (rest ++ zeros (length es)))
+
+  pub key_words_at : (level : ℕ) (es : List (Entry K ℕ)) (w : List ℕ) → w ≡ node_words G level es → (i : ℕ) → i < length es
+      → G.unsqueeze (four_at w (4 + 5 * i)) ≡ option_map (λ e. e.key) (slice_get es i)
+  key_words_at level es w is i l =
+      let h = here es i l in
+      ap G.unsqueeze (words_at level es w is i l h).keyed ∙ C.round_trip h.it.key ∙ ap (option_map (λ e. e.key)) (sym h.there)
+
+  pub link_word_at : (level : ℕ) (es : List (Entry K ℕ)) (w : List ℕ) → w ≡ node_words G level es → (i : ℕ) → i < length es
+      → Some (get_or w (8 + 5 * i) 0) ≡ option_map (λ e. e.link) (slice_get es i)
+  link_word_at level es w is i l =
+      let h = here es i l in
+      let eight : 8 + 5 * i ≡ 4 + 5 * i + 4 = omega arith in
+      ap Some (ap (λ (n : ℕ). get_or w n 0) eight ∙ (words_at level es w is i l h).linked) ∙ ap (option_map (λ e. e.link)) (sym h.there)

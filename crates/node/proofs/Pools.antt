@@ -1,14 +1,64 @@
--- How the entries of a pool are dealt to two nodes.
-use Rattle.std.proofs.Common.{◌≡◌, ℕ, ◌<◌, ◌≤◌, Bool, true, false, cond, ltb, ◌⊎◌, inl, inr, List, [], ◌∷◌, ◌++◌, map, length, take, sym, refl, ap, ◌∙◌, subst, append_assoc, append-nil, arith, length-append}
+-- Pools of entries, and how they are dealt to two nodes.
+use Rattle.std.proofs.Common.{◌≡◌, ℕ, ◌+◌, ◌<◌, ◌≤◌, Bool, true, false, cond, ltb, ◌⊎◌, inl, inr, List, [], ◌∷◌, ◌++◌, map, length, get_or, take, sym, refl, ap, ◌∙◌, subst, append_assoc, append-nil, arith, length-append}
 use lib.ListN.{length-map}
-use Rattle.std.proofs.lemmas.List.{nil_from_length}
+use Rattle.std.proofs.lemmas.Bool.{lt-ltb}
+use Rattle.std.proofs.lemmas.Option.{slice_get_within, get_or_from_slice_get}
+use Rattle.std.proofs.lemmas.List.{nil_from_length, map_push, length_push, length-take-le, get_or-take, get_or-map}
 use Rattle.key_class.specs.Class.{Growing, Coded, Class, Lawful, Shares, Picks}
 use Rattle.node.specs.Nodes.{Entry, keys, entry_words, node_words, stay, go}
 use Rattle.node.specs.Reading.{count_in}
-use Rattle.node.specs.InMemory.{pushed_row}
-use Rattle.node.proofs.Rows.{key_part}
+use Rattle.node.specs.InMemory.{rows_in, pushed_row, Pooled}
+use Rattle.node.specs.declared.memory.Pool.{Pool}
+use Rattle.node.proofs.Rows.{key_part, link_part}
+use Rattle.node.proofs.Places.{Here, EntryAt, taken}
 use Rattle.node.proofs.Marks.{stay_nil, go_nil, length_stay, length_go, stay_or_go, stay-take, go-take}
 use Rattle.node.proofs.Edits.{pushed_within}
+
+-- What puts the words of an entry into a pool: it is behind the others where there is room.
+pub pooled_if : {K : Type 0} (G : Growing K) (p q : Pool) (es : List (Entry K ℕ)) → Pooled G p es → (e : Entry K ℕ) (row : List ℕ) → row ≡ entry_words G e
+    → (r : Bool) → r ≡ ltb p.count 15 → q.count ≡ cond r (p.count + 1) p.count → rows_in q ≡ cond r (rows_in p ++ row ∷ []) (rows_in p)
+    → (r ≡ ltb (length es) 15) × Pooled G q (cond r (es ++ e ∷ []) es)
+pooled_if {K} G p q es is e row rowed r room count rows =
+    (room ∙ ap (λ n. ltb n 15) is.many, either r count rows)
+  where
+    either : (r : Bool) → q.count ≡ cond r (p.count + 1) p.count → rows_in q ≡ cond r (rows_in p ++ row ∷ []) (rows_in p) → Pooled G q (cond r (es ++ e ∷ []) es)
+    either true count rows = record {
+      many = count ∙ ap (λ n. n + 1) is.many ∙ sym (length_push es e);
+      rowed =
+          rows ∙ ap (λ (l : List (List ℕ)). l ++ row ∷ []) is.rowed ∙ ap (λ (u : List ℕ). map (entry_words G) es ++ u ∷ []) rowed
+          ∙ sym (map_push (entry_words G) es e);
+    }
+    either false count rows = record { many = count ∙ is.many; rowed = rows ∙ is.rowed }
+
+-- The entries of a node come behind those of a pool, one by one.
+pub pooled_more : {K : Type 0} (G : Growing K) (p q : Pool) (es fs : List (Entry K ℕ)) (i : ℕ) → Pooled G p (es ++ take i fs) → length es + length fs ≤ 15
+    → (row : List ℕ) → EntryAt G fs i row → (r : Bool) → r ≡ ltb p.count 15 → q.count ≡ cond r (p.count + 1) p.count
+    → rows_in q ≡ cond r (rows_in p ++ row ∷ []) (rows_in p) → Pooled G q (es ++ take (i + 1) fs)
+pooled_more {K} G p q es fs i is few row t r full count rows =
+    let xs : List (Entry K ℕ) = es ++ take i fs in
+    let l = slice_get_within fs i t.it t.there in
+    let n = length-append es (take i fs) in
+    let m = length-take-le i fs (omega arith) in
+    let a = pooled_if G p q xs is t.it row t.rowed r full count rows in
+    let done : r ≡ true = a.0 ∙ lt-ltb (length xs) 15 (omega arith) in
+    subst (Pooled G q)
+    (ap (λ (b : Bool). cond b (xs ++ t.it ∷ []) xs) done ∙ append_assoc es (take i fs) (t.it ∷ []) ∙ ap (λ (ys : List (Entry K ℕ)). es ++ ys) (sym (taken fs i row t)))
+    a.1
+
+-- The row at a place of a pool, the words of the key in it, and the link.
+row_in : {K : Type 0} (G : Growing K) (p : Pool) (es : List (Entry K ℕ)) → Pooled G p es → (i : ℕ) → i < length es → (h : Here es i) → get_or p.rows i [] ≡ entry_words G h.it
+row_in G p es is i l h =
+    let m = is.many in
+    sym (get_or-take p.count p.rows i [] (omega arith)) ∙ ap (λ (rs : List (List ℕ)). get_or rs i []) is.rowed
+    ∙ get_or-map (entry_words G) es i h.it [] l ∙ ap (entry_words G) (get_or_from_slice_get es i h.it h.it h.there)
+
+key_in : {K : Type 0} {G : Growing K} (C : Coded G) (p : Pool) (es : List (Entry K ℕ)) → Pooled G p es → (i : ℕ) → i < length es → (h : Here es i)
+    → take 4 (get_or p.rows i []) ≡ G.squeeze h.it.key
+key_in {K} {G} C p es is i l h = ap (take 4) (row_in G p es is i l h) ∙ key_part C h.it
+
+link_in : {K : Type 0} {G : Growing K} (C : Coded G) (p : Pool) (es : List (Entry K ℕ)) → Pooled G p es → (i : ℕ) → i < length es → (h : Here es i)
+    → get_or (get_or p.rows i []) 4 0 ≡ h.it.link
+link_in {K} {G} C p es is i l h = ap (λ (u : List ℕ). get_or u 4 0) (row_in G p es is i l h) ∙ link_part C h.it
 
 -- The entries before these are on two nodes by their marks.
 pub record Dealt {K : Type 0} (G : Growing K) (level : ℕ) (marks : List Bool) (es : List (Entry K ℕ)) (low high : List ℕ) (rows : List (List ℕ)) (goes : List Bool) : Type 0 where

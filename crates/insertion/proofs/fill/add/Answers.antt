@@ -23,6 +23,6 @@ returns g c = record {
       let all = c.push_all.ensures level [] es c.new-pool.ensures full.1 in
       let one = c.push-2.ensures es (rw (all.0 ∙ le-leb _ 15 (omega arith)) at all.1) in
       let pooled = rw (one.0 ∙ lt-ltb _ 15 (omega arith)) at one.1 in
-      let parts = rw (c.level.ensures ∙ level_is g.K.Key.growing c.push.new.self level es full.1) at (c.split.ensures (es ++ e ∷ []) pooled (omega arith) (omega arith)) in
+      let parts = rw (c.level.ensures ∙ level_is g.K.Key.growing c.push.new.self.words level es full.1) at (c.split.ensures (es ++ e ∷ []) pooled (omega arith) (omega arith)) in
       added g.met.K.KeyClass.lawful level (es ++ e ∷ []) more room.held (room.spare (omega arith)) parts.0 parts.1 c.share_out.result c.share_out.ensures;
 }
