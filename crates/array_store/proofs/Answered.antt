@@ -1,6 +1,5 @@
 -- What each call answers, and what it leaves of the pages and of the words past them.
-use Rattle.std.proofs.Common.{◌≡◌, ℕ, ◌*◌, ◌<◌, drop, Err, vec_items, Option, unwrap_or, sym, ap, ◌∙◌, arith}
-use Rattle.std.proofs.lemmas.Grind.{elements}
+use Rattle.std.proofs.Common.{◌≡◌, ℕ, ◌*◌, ◌<◌, drop, Err, vec_items, Option, unwrap_or, sym, ap, ◌∙◌}
 use Rattle.page_store.specs.Pages.{Pages, Words, at}
 use Rattle.page_store.specs.Refusals.{answer}
 use Rattle.page_store.specs.Calls.{changed}
@@ -14,7 +13,7 @@ use Rattle.array_store.specs.Array.{pages_in, words_past}
 use Rattle.array_store.specs.declared.store.ArrayStore.{ArrayStore}
 use Rattle.array_store.specs.Laws.{length_pages, at_pages}
 use Rattle.array_store.proofs.Laid.{cleared_pages}
-use Rattle.array_store.proofs.Edited.{edited_pages}
+use Rattle.array_store.proofs.Edited.{edited_pages, edited_past}
 use Rattle.array_store.proofs.Kept.{Allows, allowed_within, allowed_held}
 
 -- `check` answered an error: the page that the call names stays as it is.
@@ -32,7 +31,7 @@ pages_changed s {g} {p} {x} a e =
 
 pub past_kept : (s : ArrayStore) {g : Groups} {p : ℕ} {x : Option Words} → EditsPage s.groups g p x → p < s.groups.size
     → drop (65 * g.size) (vec_items g.words) ≡ words_past s
-past_kept s e l = rw e.size (grind (arith, elements, e.words.long, e.words.after))
+past_kept s e l = rw e.size (edited_past e.words s.groups.size l)
 
 -- What the calls need of these lemmas and of others.
 pub ruleset calls = (length_pages, at_pages, free_most, allowed_within, allowed_held, unread, unchanged, pages_changed, cleared_pages, edited_pages)

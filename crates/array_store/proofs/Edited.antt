@@ -1,8 +1,8 @@
 -- What an edit of one page changes, what it leaves, and how one is made.
-use Rattle.std.proofs.Common.{◌≡◌, ℕ, zero, suc, ◌+◌, ◌-◌, ◌*◌, ◌<◌, ◌≤◌, List, length, get_or, take, set, true, is_some, Some, None, vec_items, vec_len, Option, Vec, sym, refl, ap, ◌∙◌, ⊎_elim, arith, rules}
+use Rattle.std.proofs.Common.{◌≡◌, ℕ, zero, suc, ◌+◌, ◌-◌, ◌*◌, ◌<◌, ◌≤◌, List, length, get_or, take, drop, set, true, is_some, Some, None, vec_items, vec_len, Option, Vec, sym, refl, ap, ◌∙◌, ⊎_elim, arith, rules}
 use borrow.Rule.Slice.PartMut.{put_mid}
-use Rattle.std.proofs.lemmas.List.{ext_get_or, places, take_at, drop_at, with_items_is}
-use Rattle.std.proofs.lemmas.Grind.{common_steps}
+use Rattle.std.proofs.lemmas.List.{ext_get_or, places, take_at, drop_at, length-set, get_or-set_same, get_or-set_other, with_items_is}
+use Rattle.std.proofs.lemmas.Grind.{common_steps, elements}
 use Rattle.std.proofs.lemmas.Bool.{cases_eq}
 use Rattle.std.specs.Vec.{with_items}
 use Rattle.page_store.specs.Pages.{Words}
@@ -33,8 +33,16 @@ edited_pages {us} {vs} {p} {x} e n h = ext_get_or None _ _ (grind (arith, common
     (λ (ne : q ≡ p → ⊥). grind (arith, common_steps, length_pages, at_pages, other_page e q))
     (cases_eq q p))
 
+pub edited_past : {us vs : List ℕ} {p : ℕ} {x : Option Words} → Edits us vs p x → (n : ℕ) → p < n → drop (65 * n) vs ≡ drop (65 * n) us
+edited_past e n h = grind (arith, elements, e.long, e.after)
+
+-- An edit through the slice of a vector.
+pub refilled_edits : {Z : Type 0} (v : Vec ℕ Z) {us vs : List ℕ} {p : ℕ} {x : Option Words} → length us ≡ vec_len v → us ≡ vec_items v
+    → Edits us vs p x → Edits (vec_items v) (vec_items (with_items v vs)) p x
+refilled_edits v {us} {vs} l e h = rw (with_items_is v vs (h.long ∙ l), ← e) h
+
 -- A write of the words of a held page, to the k places from a on.
-put_words : (us : List ℕ) (p a k : ℕ) (w : Words) → a ≡ 65 * p + 1 → k ≡ 64 → 65 * p + 65 ≤ length us → length w ≡ 64
+pub put_words : (us : List ℕ) (p a k : ℕ) (w : Words) → a ≡ 65 * p + 1 → k ≡ 64 → 65 * p + 65 ≤ length us → length w ≡ 64
     → is_some (page_at us p) ≡ true → Edits us (put_mid a k us w) p (Some w)
 put_words us p a k w e f r l h =
     let same : get_or (put_mid a k us w) (65 * p) 0 ≡ get_or us (65 * p) 0 = search (rules, places) in
@@ -48,10 +56,24 @@ put_words us p a k w e f r l h =
       mark = λ m. omega arith;
     }
 
+-- And where the page is not held yet, once its mark is set.
+pub hold_edits : (us : List ℕ) (p k : ℕ) (w : Words) → 65 * p + 65 ≤ length us → k ≡ 64 → length w ≡ 64
+    → Edits us (put_mid (65 * p + 1) k (set us (65 * p) 1) w) p (Some w)
+hold_edits us p k w room e long =
+    let l = length-set us (65 * p) 1 in
+    let mark : get_or (set us (65 * p) 1) (65 * p) 0 ≡ 1 = get_or-set_same us (65 * p) 1 0 (omega arith) in
+    let f = put_words (set us (65 * p) 1) p (65 * p + 1) k w refl e (omega arith) long (ap is_some (page_held (set us (65 * p) 1) p (λ z. omega arith))) in
+    record {
+      long = f.long ∙ l;
+      before = λ i b. f.before i b ∙ get_or-set_other us (65 * p) i 1 0 (λ z. omega arith);
+      after = λ i b. f.after i b ∙ get_or-set_other us (65 * p) i 1 0 (λ z. omega arith);
+      here = f.here;
+      mark = λ m. f.mark (omega arith);
+    }
+
 -- The same through the slice us of a vector, to the places from a up to b.
 pub fill_edits : {Z : Type 0} (v : Vec ℕ Z) {us w : List ℕ} {p a b : ℕ} → us ≡ vec_items v → a ≡ 65 * p + 1 → b ≡ 65 * p + 65 → length w ≡ 64
     → 65 * p + 65 ≤ vec_len v → is_some (page_at (vec_items v) p) ≡ true → Edits (vec_items v) (vec_items (with_items v (put_mid a (b - a) us w))) p (Some w)
 fill_edits v {us} {w} {p} {a} {b} e f g l r h =
     let long : length us ≡ vec_len v = ap length e ∙ sym v.ok.0 in
-    let edits = put_words us p a (b - a) w f (omega arith) (omega arith) l (rw e h) in
-    rw (with_items_is v _ (edits.long ∙ long), ← e) edits
+    refilled_edits v long e (put_words us p a (b - a) w f (omega arith) (omega arith) l (rw e h))

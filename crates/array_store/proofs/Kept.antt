@@ -68,6 +68,9 @@ allowed_within s p a = held_within (words_in s) s.groups.size p (held_by_ok (pag
 pub allowed_held : (s : ArrayStore) (p : ℕ) → Allows s p → is_some (page_at (words_in s) p) ≡ true
 allowed_held s p a = ap is_some (sym (at_pages (words_in s) s.groups.size p (allowed_within s p a))) ∙ held_by_ok (pages_in s) p a
 
+pub allowed_room : (s : ArrayStore) (p : ℕ) → Allows s p → 65 * p + 65 ≤ length (words_in s)
+allowed_room s p a = omega (arith, s.groups.room, s.groups.words.ok, allowed_within s p a)
+
 free_apart : (s : ArrayStore) (p : ℕ) → Allows s p → (q : ℕ) → is_some (page_at (words_in s) q) ≡ false → q ≡ p → ⊥
 free_apart s p a q f e = grind (arith, allowed_held)
 

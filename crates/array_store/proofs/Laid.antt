@@ -1,6 +1,7 @@
 -- How the pages lie in the words: each of them is its 65 places, and the words whose marks are cleared.
-use Rattle.std.proofs.Common.{◌≡◌, ℕ, zero, suc, ◌+◌, ◌*◌, ◌<◌, ◌≤◌, List, length, get_or, take, drop, replicate, None, refl, arith}
-use Rattle.std.proofs.lemmas.List.{length-set, ext_get_or}
+use Rattle.std.proofs.Common.{◌≡◌, ℕ, zero, suc, ◌+◌, ◌*◌, ◌<◌, ◌≤◌, List, length, get_or, take, drop, replicate, None, vec_items, vec_len, Vec, refl, ap, ◌∙◌, arith}
+use Rattle.std.proofs.lemmas.List.{length-set, ext_get_or, with_items_is}
+use Rattle.std.specs.Vec.{with_items}
 use Rattle.std.proofs.lemmas.Grind.{common_steps, elements}
 use Rattle.array_store.specs.Layout.{page_at, pages_of, cleared}
 use Rattle.array_store.specs.Laws.{length_pages, at_pages, page_free}
@@ -31,3 +32,9 @@ cleared_page ws n p room h = page_free (cleared ws n) p (cleared_mark ws n p roo
 
 pub cleared_pages : (ws : List ℕ) (n : ℕ) → 65 * n ≤ length ws → pages_of (cleared ws n) n ≡ replicate n None
 cleared_pages ws n room = ext_get_or None _ _ (grind (arith, common_steps, length_pages)) (λ p l. grind (arith, common_steps, length_pages, at_pages, cleared_page))
+
+-- The marks cleared through the slice of a vector.
+pub refilled_cleared : {Z : Type 0} (v : Vec ℕ Z) {us vs : List ℕ} (n : ℕ) → length us ≡ vec_len v → us ≡ vec_items v
+    → vs ≡ cleared us n → vec_items (with_items v vs) ≡ cleared (vec_items v) n
+refilled_cleared v {us} {vs} n l e h =
+    with_items_is v vs (ap length h ∙ length_cleared us n ∙ l) ∙ h ∙ ap (λ (ws : List ℕ). cleared ws n) e

@@ -6,7 +6,7 @@ use Rattle.std.proofs.lemmas.Grind.{common_steps}
 use Rattle.std.proofs.lemmas.List.{get_or_past, get_or-set_same, set-get_or}
 use Rattle.std.proofs.lemmas.List.Sums.{fails_before_first}
 use Rattle.std.proofs.lemmas.List.Quantifiers.{position-Some}
-use Rattle.std.proofs.lemmas.Bool.{both_ways, cases_lt, cond-false, false_from_ne_true}
+use Rattle.std.proofs.lemmas.Bool.{both_ways, cases_eq, cases_lt, cond-true, cond-false, false_from_ne_true, false≢true}
 use Rattle.std.proofs.lemmas.Option.{none-some}
 use Rattle.page_cache.specs.declared.slot.Slot.{Slot}
 use Rattle.page_cache.specs.Slots.{Slots, is_changed, keeps, slot_at, words_in, kept_in, Apart, Whole}
@@ -31,10 +31,15 @@ kept_miss ks p none = kept_cases (λ o. o ≡ None) ks p (λ _. refl) (λ i k e 
 pub unkept : (ks : Slots) (p : ℕ) → kept_in ks p ≡ None → (i : ℕ) → keeps p (slot_at ks i) ≡ false
 unkept ks p = kept_cases (λ o. o ≡ None → (i : ℕ) → keeps p (slot_at ks i) ≡ false) ks p (λ none _. none) (λ _ k _ _ n. absurd (none-some k.words (sym n)))
 
+-- Of the slot that alone keeps p, the words are kept.
+pub kept_alone : (ks : Slots) (i p : ℕ) → keeps p (slot_at ks i) ≡ true → ((j : ℕ) → (j ≢ i) → keeps p (slot_at ks j) ≡ false) → kept_in ks p ≡ words_in (slot_at ks i)
+kept_alone [] i p own others = absurd (false≢true own)
+kept_alone (x ∷ ks) zero p own others = cond-true (keeps p x) _ _ own
+kept_alone (x ∷ ks) (suc i) p own others =
+    cond-false (keeps p x) _ _ (others 0 (λ e. omega arith)) ∙ kept_alone ks i p own (λ j ne. others (suc j) (λ e. ne (omega arith)))
+
 pub kept_hit : (ks : Slots) (i p : ℕ) → Apart ks → keeps p (slot_at ks i) ≡ true → kept_in ks p ≡ words_in (slot_at ks i)
-kept_hit ks i p apart own = kept_cases (λ o. o ≡ words_in (slot_at ks i)) ks p
-    (λ none. absurd (both_ways _ (none i) own))
-    (λ j k e h. let same : j ≡ i = apart j i p (subst (λ (q : ℕ). keeps q (slot_at ks j) ≡ true) h (slot_keeps (slot_at ks j) k e)) own in ap words_in (sym e ∙ ap (slot_at ks) same))
+kept_hit ks i p apart own = kept_alone ks i p own (no_other_keeps ks i p apart own)
 
 -- What a search for the slot that keeps p tells.
 pub none_passes : {X : Type 0} (f : X → Bool) (xs : List X) (d : X) → f d ≡ false → position f xs ≡ None → (i : ℕ) → f (get_or xs i d) ≡ false
@@ -69,6 +74,22 @@ keeps_set ks i j p x own h = grind (arith, common_steps)
 pub apart_set : (ks : Slots) (i : ℕ) (x : Option Slot) → Apart ks → ((p : ℕ) → keeps p x ≡ true → keeps p (slot_at ks i) ≡ true) → Apart (slice_set ks i x)
 apart_set ks i x apart own = λ a b p m n. apart a b p (keeps_set ks i a p x (own p) m) (keeps_set ks i b p x (own p) n)
 
+-- Slot i is filled with a page that no other slot keeps.
+pub apart_put : (ks : Slots) (i : ℕ) (k : Slot) → Apart ks → ((j : ℕ) → (j ≢ i) → keeps k.page (slot_at ks j) ≡ false) → Apart (slice_set ks i (Some k))
+apart_put ks i k apart alone a b p m n = ⊎_elim
+    (λ (e : a ≡ i). ⊎_elim (λ (f : b ≡ i). e ∙ sym f) (λ (f : b ≢ i). absurd (only b a p f e n m)) (cases_eq b i))
+    (λ (e : a ≢ i). ⊎_elim (λ (f : b ≡ i). absurd (only a b p e f m n)) (λ (f : b ≢ i). apart a b p (other a p e m) (other b p f n)) (cases_eq b i))
+    (cases_eq a i)
+  where
+    other : (j p : ℕ) → j ≢ i → keeps p (slot_at (slice_set ks i (Some k)) j) ≡ true → keeps p (slot_at ks j) ≡ true
+    other j p ne h = grind (arith, common_steps)
+
+    here : (j p : ℕ) → j ≡ i → keeps p (slot_at (slice_set ks i (Some k)) j) ≡ true → k.page ≡ p
+    here j p e h = grind (arith, common_steps)
+
+    only : (j l p : ℕ) → j ≢ i → l ≡ i → keeps p (slot_at (slice_set ks i (Some k)) j) ≡ true → keeps p (slot_at (slice_set ks i (Some k)) l) ≡ true → ⊥
+    only j l p ne e m n = both_ways _ (alone j ne) (subst (λ (q : ℕ). keeps q (slot_at ks j) ≡ true) (sym (here l p e n)) (other j p ne m))
+
 pub whole_set : (ks : Slots) (i : ℕ) (x : Option Slot) → Whole ks → ((k : Slot) → x ≡ Some k → length k.words ≡ 64) → Whole (slice_set ks i x)
 whole_set ks i x whole own = λ j k n. let other = whole j k in let here = own k in grind (arith, common_steps)
 
@@ -78,6 +99,14 @@ kept_clean [] i q = refl
 kept_clean (None ∷ ks) zero q = refl
 kept_clean (Some k ∷ ks) zero q = refl
 kept_clean (x ∷ ks) (suc i) q = let e = kept_clean ks i q in cc
+
+pub clean_keeps : (ks : Slots) (i j p : ℕ) → keeps p (slot_at (slice_set ks i (clean (slot_at ks i))) j) ≡ keeps p (slot_at ks j)
+clean_keeps [] i j p = refl
+clean_keeps (None ∷ ks) zero zero p = refl
+clean_keeps (Some k ∷ ks) zero zero p = refl
+clean_keeps (x ∷ ks) zero (suc j) p = refl
+clean_keeps (x ∷ ks) (suc i) zero p = refl
+clean_keeps (x ∷ ks) (suc i) (suc j) p = clean_keeps ks i j p
 
 clean_unchanged : (x : Option Slot) → is_changed (clean x) ≡ false
 clean_unchanged None = refl

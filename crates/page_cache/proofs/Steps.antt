@@ -1,9 +1,9 @@
 -- What each step of a cache does to the pages that it means: s are the pages below, ks the slots.
-use Rattle.std.specs.Prelude.{◌≡◌, ℕ, ◌<◌, true, false, length, Some, None, Option, slice_set, refl}
+use Rattle.std.specs.Prelude.{◌≡◌, ℕ, ◌<◌, true, false, length, Some, None, Option, ◌≢◌, slice_set, refl}
 use Rattle.std.proofs.Common.{sym, ap, subst, ◌∙◌, ⊎_elim, arith}
 use Rattle.std.proofs.lemmas.Grind.{common_steps}
 use Rattle.std.proofs.lemmas.List.{get_or-set_same, length-set, set-set}
-use Rattle.std.proofs.lemmas.Bool.{both_ways, cases_Bool}
+use Rattle.std.proofs.lemmas.Bool.{both_ways, cases_Bool, cases_eq}
 use Rattle.std.proofs.lemmas.Option.{none-some, same_Some}
 use Rattle.page_store.specs.Pages.{Pages, Words, at}
 use Rattle.page_cache.specs.declared.slot.Slot.{Slot}
@@ -12,7 +12,7 @@ use Rattle.page_cache.specs.Policy.{Places, slot_of, by_slot, replaced, after_gi
 use Rattle.page_cache.specs.Over.{over, lay, Fair, Tied}
 use Rattle.page_cache.specs.Laws.{length_over, at_over, whole_over}
 use Rattle.page_cache.proofs.Laying.{lay_none, same_over, over_none, over_kept, over_same, over_but, over_unkept, over_written}
-use Rattle.page_cache.proofs.Slots.{slot_keeps, keeps_only, kept_hit, first_none, first_keeps, kept_but, kept_other, kept_emptied, kept_clean, cleaned}
+use Rattle.page_cache.proofs.Slots.{slot_keeps, keeps_only, apart_put, kept_hit, first_none, first_keeps, kept_but, kept_other, kept_emptied, kept_clean, cleaned}
 use Rattle.page_cache.proofs.Ties.{tied_same, tied_set, tied_unkept, slot_held, lay_slot, lay_clean}
 
 abbrev pub view : Pages → Slots → Pages
@@ -95,18 +95,35 @@ rewritten s ks ls i k tied l own changed filled distinct =
     let here = filled_means s ks ls i k tied l (record { held = slot_held s ks i k.page tied own; same = λ c. absurd (both_ways _ c changed) }) filled distinct in
     record { tied = here.tied; pages = here.pages ∙ emptied s ks i k.page (Some k.words) own }
 
+-- Slot i is filled with a page that no other slot keeps; what it kept before was that page, or is below too.
+pub put_in : (s : Pages) (ks : Slots) (i : ℕ) (k : Slot) → Apart ks → i < length ks → Tied s ks → ((j : ℕ) → (j ≢ i) → keeps k.page (slot_at ks j) ≡ false)
+    → ((q : ℕ) → (q ≢ k.page) → keeps q (slot_at ks i) ≡ true → is_changed (slot_at ks i) ≡ false) → Fair s k
+    → Means s (slice_set ks i (Some k)) (slice_set (view s ks) k.page (Some k.words))
+put_in s ks i k apart l tied alone old fair =
+    let ls : Slots = slice_set ks i (Some k) in
+    let here = filled_means s ks ls i k tied l fair refl (apart_put ks i k apart alone) in
+    record { tied = here.tied; pages = here.pages ∙ before (slot_at ks i) refl }
+  where
+    before : (x : Option Slot) → slot_at ks i ≡ x → slice_set (view s (slice_set ks i None)) k.page (Some k.words) ≡ slice_set (view s ks) k.page (Some k.words)
+    before None e = ap (λ (u : Pages). slice_set u k.page (Some k.words)) (dropped s ks i apart tied (ap is_changed e))
+    before (Some m) e = ⊎_elim
+        (λ (same : m.page ≡ k.page). emptied s ks i k.page (Some k.words) (subst (λ (q : ℕ). keeps q (slot_at ks i) ≡ true) same (slot_keeps (slot_at ks i) m e)))
+        (λ (ne : m.page ≢ k.page). ap (λ (u : Pages). slice_set u k.page (Some k.words)) (dropped s ks i apart tied (old m.page ne (slot_keeps (slot_at ks i) m e))))
+        (cases_eq m.page k.page)
+
+-- A page that no slot keeps is given back below, and one that slot i keeps.
+pub gave_unkept : (s : Pages) (ks : Slots) (p : ℕ) → Tied s ks → kept_in ks p ≡ None → Means (slice_set s p None) ks (slice_set (view s ks) p None)
+gave_unkept s ks p tied none = record { tied = tied_unkept s ks p None tied none; pages = over_unkept s (kept_in ks) p None none }
+
+pub gave_kept : (s : Pages) (ks : Slots) (p i : ℕ) → Apart ks → Tied s ks → keeps p (slot_at ks i) ≡ true → Means (slice_set s p None) (slice_set ks i None) (slice_set (view s ks) p None)
+gave_kept s ks p i apart tied own =
+    let here = gave_unkept s (slice_set ks i None) p (tied_emptied s ks i tied) (kept_emptied ks i p apart own) in
+    record { tied = here.tied; pages = here.pages ∙ emptied s ks i p None own }
+
 gave_by : (s : Pages) (b : Places) (p : ℕ) (o : Option ℕ) → slot_of b p ≡ o → Apart b.slots → Tied s b.slots
     → Means (slice_set s p None) (by_slot o (λ i. replaced b i None) b).slots (slice_set (view s b.slots) p None)
-gave_by s b p None e apart tied =
-    let none = first_none b.slots p e in
-    record { tied = tied_unkept s b.slots p None tied none; pages = over_unkept s (kept_in b.slots) p None none }
-gave_by s b p (Some i) e apart tied =
-    let own = first_keeps b.slots p i e in
-    let none = kept_emptied b.slots i p apart own in
-    record {
-      tied = tied_unkept s (slice_set b.slots i None) p None (tied_emptied s b.slots i tied) none;
-      pages = over_unkept s (kept_in (slice_set b.slots i None)) p None none ∙ emptied s b.slots i p None own;
-    }
+gave_by s b p None e apart tied = gave_unkept s b.slots p tied (first_none b.slots p e)
+gave_by s b p (Some i) e apart tied = gave_kept s b.slots p i apart tied (first_keeps b.slots p i e)
 
 -- A page is given back below, and the slot that keeps it, if one does, is emptied.
 pub gave : (s t : Pages) (b a : Places) (p : ℕ) → Apart b.slots → Tied s b.slots → t ≡ slice_set s p None → a ≡ after_give_back b p
