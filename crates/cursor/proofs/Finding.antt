@@ -37,6 +37,7 @@ pub record Passed {K Q : Type 0} (C : Class K Q) (s : Pages) (q : Q) (e : Entry 
   pub lies : Lies C.growing s h tree
   pub it : Entry K (Link K h)
   pub there : slice_get tree.entries p.next ≡ Some it
+  pub left : drop p.next tree.entries ≡ it ∷ drop (p.next + 1) tree.entries
   pub stands : record { key = it.key; link = link_number K h it.link } ≡ e
   pub rest : List (Entry K ℕ)
   pub is : todo ≡ found_at C q h it ++ rest
@@ -91,6 +92,7 @@ module _ {K Q : Type 0} {C : Class K Q} {s : Pages} {q : Q} (n : Node) {p : Plac
             lies = gv.lies;
             it = at.it;
             there = at.there;
+            left = at.left;
             stands = at.stands;
             rest = l ++ pend.1;
             is = pend.4 ∙ ap (λ v. v ++ pend.1) (gv.gives ∙ ap (flat_map (found_at C q h)) at.left) ∙ append_assoc f l pend.1;

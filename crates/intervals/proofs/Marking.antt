@@ -8,7 +8,7 @@ use Rattle.key_class.specs.Class.{Squeezed}
 use Rattle.intervals.specs.declared.interval.Interval.{Interval}
 use Rattle.intervals.specs.Intervals.{squeeze, interval_growing}
 use Rattle.intervals.specs.Ranks.{ranks_from, by_rank}
-use Rattle.intervals.specs.Ranking.{below}
+use Rattle.intervals.specs.Ranking.{below, at_most_is}
 
 abbrev low : List ℕ → ℕ
 low w = slice_index w 0
@@ -29,6 +29,9 @@ count_lows p (w ∷ ws) =
 -- The rank of the number x at i.
 abbrev rank : List ℕ → ℕ → ℕ → ℕ
 rank xs i x = count_by (λ y. nat_le y x) (take i xs) + count_by (λ y. nat_lt y x) (drop (i + 1) xs)
+
+pub rank_below : (xs : List ℕ) (i x : ℕ) → rank xs i x ≡ below (x + 1) (take i xs) + below x (drop (i + 1) xs)
+rank_below xs i x = ap (λ n. n + below x (drop (i + 1) xs)) (at_most_is x (take i xs))
 
 pub rank_lows : (ws : List (List ℕ)) (i : ℕ) → i < length ws
     → let x = low (slice_index_or ws i []) in count_by (λ w. nat_le (low w) x) (take i ws) + count_by (λ w. nat_lt (low w) x) (drop (i + 1) ws) ≡ rank (lows ws) i (slice_index (lows ws) i)
@@ -57,11 +60,13 @@ marks_more half goes xs i r h g e =
     let d : map (nat_le half) (ranks_from (take i xs) (drop i xs)) ≡ nat_le half (rank xs i x) ∷ rest = at_drop_more (λ l. map (nat_le half) (ranks_from (take i xs) l)) xs i 0 h in
     rw (take_more_set goes i (nat_le half r) g, take_more xs i 0 h, append_assoc) (ap (λ l. take i goes ++ l) (ap (λ n. nat_le half n ∷ rest) e ∙ sym d))
 
+pub all_ranked : (half : ℕ) (goes : List Bool) (xs : List ℕ) (i : ℕ) → length xs ≡ i
+    → take i goes ++ map (nat_le half) (ranks_from (take i xs) (drop i xs)) ≡ by_rank xs → take i goes ≡ by_rank xs
+all_ranked half goes xs i m e = sym (append-nil (take i goes)) ∙ sym (at_drop_all (λ r. take i goes ++ map (nat_le half) (ranks_from (take i xs) r)) xs i (omega arith)) ∙ e
+
 pub all_marked : (half : ℕ) (goes more : List Bool) (xs : List ℕ) (n i : ℕ) → length goes ≡ n → length xs ≡ n → i ≡ n
     → take i goes ++ map (nat_le half) (ranks_from (take i xs) (drop i xs)) ≡ by_rank xs → take n (goes ++ more) ≡ by_rank xs
-all_marked half goes more xs n i l m a e =
-    take_at goes more n l ∙ sym (take_all i goes (omega arith)) ∙ sym (append-nil (take i goes))
-    ∙ sym (at_drop_all (λ r. take i goes ++ map (nat_le half) (ranks_from (take i xs) r)) xs i (omega arith)) ∙ e
+all_marked half goes more xs n i l m a e = take_at goes more n l ∙ sym (take_all i goes (omega arith)) ∙ all_ranked half goes xs i (omega arith) e
 
 -- The low ends are the first words.
 pub lows_squeezed : (ks : List Interval) (ws : List (List ℕ)) → Squeezed interval_growing ks ws → lows ws ≡ map (λ (k : Interval). k.low) ks

@@ -20,7 +20,7 @@ leb_one a b = elim (leb_tells a b) [ inl h ↦ inl (ap one h.0, h.1) | inr h ↦
 abbrev pub below : ℕ → List ℕ → ℕ
 below x ys = count_by (λ y. nat_lt y x) ys
 
-abbrev at_most : ℕ → List ℕ → ℕ
+abbrev pub at_most : ℕ → List ℕ → ℕ
 at_most x ys = count_by (λ y. nat_le y x) ys
 
 below_cons : (x y : ℕ) (ys : List ℕ) → below x (y ∷ ys) ≡ one (nat_lt y x) + below x ys
@@ -35,7 +35,7 @@ below_most x zs = count_by-le-length (λ z. nat_lt z x) zs
 below_mono : (x y : ℕ) → x ≤ y → (zs : List ℕ) → below x zs ≤ below y zs
 below_mono x y h zs = sum_by-le-sum_by (λ z. one (nat_lt z x)) (λ z. one (nat_lt z y)) zs (λ z. let p = leb_one (suc z) x in let q = leb_one (suc z) y in omega arith)
 
-at_most_is : (x : ℕ) (ys : List ℕ) → at_most x ys ≡ below (x + 1) ys
+pub at_most_is : (x : ℕ) (ys : List ℕ) → at_most x ys ≡ below (x + 1) ys
 at_most_is x ys =
     let e : (y : ℕ) → nat_le y x ≡ nat_lt y (x + 1) = λ y. grind (arith, nat_tests) in
     λ i. count_by (λ y. e y i) ys

@@ -74,20 +74,26 @@ module _ {K : Type 0} (G : Growing K) (s : Seeds) (p : ℕ) (g : Groups K) (k : 
 pub record Fair {K : Type 0} (s : Seeds) (n p : ℕ) (g : Groups K) : Type 0 where
   pub left : p + (g.left + one (leb p s.first) + one (leb p s.second)) ≡ n
   pub all : size g ≡ n
+  pub four_stay : 8 ≤ n → 4 ≤ g.stay.count + g.left
+  pub four_go : 8 ≤ n → 4 ≤ g.go.count + g.left
 
--- And what is enough for each to get four: they are of eight keys or more, and there are keys left that make them four.
+-- What is enough for each to get four, of groups of eight keys or more.
 record Ready {K : Type 0} (s : Seeds) (n p : ℕ) (g : Groups K) : Type 0 where
   left : p + (g.left + one (leb p s.first) + one (leb p s.second)) ≡ n
   eight : 8 ≤ size g
   four_stay : 4 ≤ g.stay.count + g.left
   four_go : 4 ≤ g.go.count + g.left
 
+length_marks : {K : Type 0} (G : Growing K) (s : Seeds) (p : ℕ) (g : Groups K) (ks : List K) → length (marks_from G s p g ks) ≡ length ks
+length_marks G s p g [] = refl
+length_marks G s p g (k ∷ ks) = ap suc (length_marks G s (p + 1) (next G s p g k) ks)
+
 module _ {K : Type 0} (G : Growing K) (s : Seeds) (n : ℕ) (ordered : s.first < s.second) (below : s.second < n) where
   pub fair_begun : (a b : K) → Fair s n 0 (begun a b n)
-  fair_begun a b = let c = at_first s.first in let d = at_first s.second in record { left = omega arith; all = omega arith }
+  fair_begun a b = let c = at_first s.first in let d = at_first s.second in record { left = omega arith; all = omega arith; four_stay = λ h. omega arith; four_go = λ h. omega arith }
 
-  ready_begun : (a b : K) → 8 ≤ n → Ready s n 0 (begun a b n)
-  ready_begun a b h = record { left = (fair_begun a b).left; eight = omega arith; four_stay = omega arith; four_go = omega arith }
+  ready : (p : ℕ) (g : Groups K) → 8 ≤ n → Fair s n p g → Ready s n p g
+  ready p g h r = record { left = r.left; eight = omega (arith, r.all); four_stay = r.four_stay h; four_go = r.four_go h }
 
   -- One place on.
   left_on : (p : ℕ) (g : Groups K) (k : K) → p < n → p + (g.left + one (leb p s.first) + one (leb p s.second)) ≡ n → (b : Bool) (g' : Groups K) → Turn G s p g k b g'
@@ -103,9 +109,6 @@ module _ {K : Type 0} (G : Growing K) (s : Seeds) (n : ℕ) (ordered : s.first <
   size_on p g k l e _ _ (goes d f h) = let a = passed p s.first in let b = passed p s.second in omega arith
   size_on p g k l e _ _ (stays d f h) = let a = passed p s.first in let b = passed p s.second in omega arith
 
-  pub fair_on : (p : ℕ) (g : Groups K) (k : K) → p < n → Fair s n p g → (b : Bool) (g' : Groups K) → Turn G s p g k b g' → Fair s n (p + 1) g'
-  fair_on p g k l r b g' t = record { left = left_on p g k l r.left b g' t; all = size_on p g k l r.left b g' t ∙ r.all }
-
   ready_on : (p : ℕ) (g : Groups K) (k : K) → p < n → Ready s n p g → (b : Bool) (g' : Groups K) → Turn G s p g k b g' → Ready s n (p + 1) g'
   ready_on p g k l r _ _ t = record { left = left_on p g k l r.left _ _ t; eight = omega (arith, r.eight, size_on p g k l r.left _ _ t); four_stay = (fours t).0; four_go = (fours t).1 }
     where
@@ -114,6 +117,14 @@ module _ {K : Type 0} (G : Growing K) (s : Seeds) (n : ℕ) (ordered : s.first <
       fours (second d f) = (r.four_stay, r.four_go)
       fours (goes d f h) = let a = passed p s.first in let b = passed p s.second in (omega (arith, r.left, r.eight, r.four_stay, r.four_go), omega (arith, r.left, r.eight, r.four_stay, r.four_go))
       fours (stays d f h) = let a = passed p s.first in let b = passed p s.second in (omega (arith, r.left, r.eight, r.four_stay, r.four_go), omega (arith, r.left, r.eight, r.four_stay, r.four_go))
+
+  pub fair_on : (p : ℕ) (g : Groups K) (k : K) → p < n → Fair s n p g → (b : Bool) (g' : Groups K) → Turn G s p g k b g' → Fair s n (p + 1) g'
+  fair_on p g k l r b g' t = record {
+    left = left_on p g k l r.left b g' t;
+    all = size_on p g k l r.left b g' t ∙ r.all;
+    four_stay = λ h. (ready_on p g k l (ready p g h r) b g' t).four_stay;
+    four_go = λ h. (ready_on p g k l (ready p g h r) b g' t).four_go;
+  }
 
   -- The groups get four each by the marks bs of the keys from place p on.
   record Enough (p : ℕ) (g : Groups K) (bs : List Bool) : Type 0 where
@@ -132,10 +143,6 @@ module _ {K : Type 0} (G : Growing K) (s : Seeds) (n : ℕ) (ordered : s.first <
       let t = turn G s p g k in
       enough_back p g k (marks_from G s (p + 1) (next G s p g k) ks) _ _ t (enough (p + 1) (next G s p g k) ks (omega arith) (ready_on p g k (omega arith) r _ _ t))
 
-  length_marks : (p : ℕ) (g : Groups K) (ks : List K) → length (marks_from G s p g ks) ≡ length ks
-  length_marks p g [] = refl
-  length_marks p g (k ∷ ks) = ap suc (length_marks (p + 1) (next G s p g k) ks)
-
 pub quadratic_shares : {K : Type 0} (G : Growing K) (ks : List K) → 13 ≤ length ks → length ks ≤ 15 → Shares (length ks) (quadratic G ks)
 quadratic_shares G [] low high = absurd (omega arith)
 quadratic_shares G (k ∷ ks) low high =
@@ -144,7 +151,7 @@ quadratic_shares G (k ∷ ks) low high =
     let w = seeds_within G (k ∷ ks) (omega arith) in
     let a = get_or (k ∷ ks) s.first k in
     let b = get_or (k ∷ ks) s.second k in
-    let e = enough G s n w.ordered w.below 0 (begun a b n) (k ∷ ks) (omega arith) (ready_begun G s n w.ordered w.below a b (omega arith)) in
+    let e = enough G s n w.ordered w.below 0 (begun a b n) (k ∷ ks) (omega arith) (ready G s n w.ordered w.below 0 (begun a b n) (omega arith) (fair_begun G s n w.ordered w.below a b)) in
     let c = at_first s.first in
     let d = at_first s.second in
-    record { each = length_marks G s n w.ordered w.below 0 (begun a b n) (k ∷ ks); four_stay = omega arith; four_go = omega arith }
+    record { each = length_marks G s 0 (begun a b n) (k ∷ ks); four_stay = omega arith; four_go = omega arith }

@@ -46,7 +46,7 @@ pooled_more {K} G p q es fs i is few row t r full count rows =
     a.1
 
 -- The row at a place of a pool, the words of the key in it, and the link.
-row_in : {K : Type 0} (G : Growing K) (p : Pool) (es : List (Entry K ℕ)) → Pooled G p es → (i : ℕ) → i < length es → (h : Here es i) → get_or p.rows i [] ≡ entry_words G h.it
+pub row_in : {K : Type 0} (G : Growing K) (p : Pool) (es : List (Entry K ℕ)) → Pooled G p es → (i : ℕ) → i < length es → (h : Here es i) → get_or p.rows i [] ≡ entry_words G h.it
 row_in G p es is i l h =
     let m = is.many in
     sym (get_or-take p.count p.rows i [] (omega arith)) ∙ ap (λ (rs : List (List ℕ)). get_or rs i []) is.rowed
