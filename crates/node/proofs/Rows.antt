@@ -3,7 +3,7 @@ use Rattle.std.proofs.Common.{◌≡◌, ℕ, zero, suc, ◌+◌, ◌-◌, ◌*�
 use Rattle.std.specs.List.{flat_map, AllByRecursion}
 use Rattle.std.specs.Option.{option_map}
 use Rattle.std.specs.Simd.{first_chunks}
-use Rattle.std.proofs.lemmas.List.{take-append-drop, take_at, drop_at, drop-drop, drop_more, length-take-le, get_or_at}
+use Rattle.std.proofs.lemmas.List.{take-append-drop, take_all, take_at, drop_at, drop-drop, drop_more, length-take-le, get_or_at}
 use Rattle.key_class.specs.Class.{Growing, Coded}
 use Rattle.node.specs.Nodes.{Entry, entry_words, node_words}
 use Rattle.node.specs.Reading.{level_in, count_in, rows, entry_in}
@@ -34,6 +34,14 @@ five_at w a l =
     let e4 = drop_more w (a + 4) 0 (omega arith) in
     let all : drop a w ≡ get_or w a 0 ∷ get_or w (a + 1) 0 ∷ get_or w (a + 2) 0 ∷ get_or w (a + 3) 0 ∷ get_or w (a + 4) 0 ∷ drop (a + 4 + 1) w = cc in
     ap (take 5) all
+
+-- A row is its five words.
+pub five_words : (r : List ℕ) → length r ≡ 5 → get_or r 0 0 ∷ get_or r 1 0 ∷ get_or r 2 0 ∷ get_or r 3 0 ∷ get_or r 4 0 ∷ [] ≡ r
+five_words r e = sym (five_at r 0 (omega arith)) ∙ take_all 5 r (omega arith)
+
+-- A row is read by the words of its key and its link.
+pub entry_parts : {K : Type 0} (G : Growing K) (w : List ℕ) (n : ℕ) (r : List ℕ) → w ≡ take 4 r → n ≡ get_or r 4 0 → option_map (λ k. record { key = k; link = n }) (G.unsqueeze w) ≡ entry_in G r
+entry_parts G w n r e f = ap (λ m. option_map (λ k. record { key = k; link = m }) (G.unsqueeze w)) f ∙ ap (λ u. option_map (λ k. record { key = k; link = get_or r 4 0 }) (G.unsqueeze u)) e
 
 -- The words of the key of row i, and its link.
 pub row_key : (w : List ℕ) (i : ℕ) → 9 + 5 * i ≤ length w

@@ -3,6 +3,7 @@ use lib.ListN.{length-map}
 use Rattle.std.specs.List.{slice_get}
 use Rattle.std.proofs.lemmas.Option.{slice_get-get_or}
 use Rattle.std.proofs.lemmas.List.{take_all}
+use Rattle.std.proofs.lemmas.Grind.{common_steps}
 use Rattle.std.proofs.lemmas.Bool.{le-leb, lt-leb}
 use Rattle.node.specs.Nodes.{Entry, entry_words, node_words}
 use Rattle.node.proofs.Places.{count_is, rows_are, at_place}
@@ -15,6 +16,7 @@ returns-then-count-gt-CAPACITY g c = λ level deep es fs is stands.
     let m = count_is g.K.Key.growing deep fs c.args.other.now.words stands in
     (sym (lt-leb (length es + length fs) 12 (omega arith)), is)
 
+-- Any words that are equal to the row's are put behind the others as it is.
 pub loop-row-preserved : goal.loop-row-preserved
 loop-row-preserved g c = λ level deep es fs is stands.
     let n = count_is g.K.Key.growing level es c.args.self.now.words is in
@@ -24,7 +26,7 @@ loop-row-preserved g c = λ level deep es fs is stands.
     let here = sym (slice_get-get_or rs i [] c.loop-row-test.true) ∙ ap (λ (rs : List (List ℕ)). slice_get rs i) c.rows-row-items.ensures in
     pushed_more g.met.K.Key.coded level es fs i c.loop-row.self.words (c.loop-row.invariant level deep es fs is stands) (omega arith) (get_or rs i [])
     (at_place g.met.K.Key.coded deep fs c.args.other.now.words stands i (get_or rs i []) here)
-    c.push_row.new.self.words c.push_row.result c.push_row.ensures.full c.push_row.ensures.words
+    c.push_row.new.self.words c.push_row.result c.push_row.ensures.full (grind (arith, common_steps))
 
 pub returns : goal.returns
 returns g c = λ level deep es fs is stands.
