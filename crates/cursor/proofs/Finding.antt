@@ -35,12 +35,9 @@ pub record Seen {K : Type 0} (h : ℕ) (es : List (Entry K (Link K h))) (i : ℕ
 pub record Passed {K Q : Type 0} (C : Class K Q) (s : Pages) (q : Q) (e : Entry K ℕ) (h : ℕ) (p : Place) (ps : List Place) (todo : List (Entry K ℕ)) : Type 0 where
   pub tree : Tree K h
   pub lies : Lies C.growing s h tree
-  pub it : Entry K (Link K h)
-  pub there : slice_get tree.entries p.next ≡ Some it
-  pub left : drop p.next tree.entries ≡ it ∷ drop (p.next + 1) tree.entries
-  pub stands : record { key = it.key; link = link_number K h it.link } ≡ e
+  pub at : Seen h tree.entries p.next e
   pub rest : List (Entry K ℕ)
-  pub is : todo ≡ found_at C q h it ++ rest
+  pub is : todo ≡ found_at C q h at.it ++ rest
   pub pending : Pending C s q h (after p ∷ ps) rest
 
 -- The node n is held for place p.
@@ -90,10 +87,7 @@ module _ {K Q : Type 0} {C : Class K Q} {s : Pages} {q : Q} (n : Node) {p : Plac
           record {
             tree = gv.tree;
             lies = gv.lies;
-            it = at.it;
-            there = at.there;
-            left = at.left;
-            stands = at.stands;
+            at = at;
             rest = l ++ pend.1;
             is = pend.4 ∙ ap (λ v. v ++ pend.1) (gv.gives ∙ ap (flat_map (found_at C q h)) at.left) ∙ append_assoc f l pend.1;
             pending = (l, pend.1, record { tree = gv.tree; lies = gv.lies; on = gv.on; gives = refl }, pend.3, refl);
@@ -104,7 +98,7 @@ module _ {K Q : Type 0} {C : Class K Q} {s : Pages} {q : Q} (n : Node) {p : Plac
           → (rest : List (Entry K ℕ)) × (todo ≡ cond (C.matches e.key q) (e ∷ []) [] ++ rest) × Pending C s q h (after p ∷ ps) rest
       on_leaf {h = zero} ps {todo = todo} z pend =
           let x = passed zero ps todo pend in
-          (x.rest, x.is ∙ ap (λ v. cond (C.matches v.key q) (v ∷ []) [] ++ x.rest) x.stands, x.pending)
+          (x.rest, x.is ∙ ap (λ v. cond (C.matches v.key q) (v ∷ []) [] ++ x.rest) x.at.stands, x.pending)
       on_leaf {h = suc h} ps z pend = absurd (omega arith)
 
       -- Above the leaves it gives what its child gives, where that may hold a match.
@@ -113,8 +107,8 @@ module _ {K Q : Type 0} {C : Class K Q} {s : Pages} {q : Q} (n : Node) {p : Plac
       on_branch {h = zero} g ps z pend = absurd (omega arith)
       on_branch {h = suc h} g ps {todo = todo} z pend =
           let x = passed (suc h) ps todo pend in
-          let l : List (Entry K ℕ) = flat_map (found_at C q h) x.it.link.entries in
+          let l : List (Entry K ℕ) = flat_map (found_at C q h) x.at.it.link.entries in
           let child : Gives C s q h (first_of e.link) l =
-          record { tree = x.it.link; lies = lies_below C.growing s h x.tree p.next x.it x.lies x.there; on = ap (λ u. u.link) x.stands; gives = refl } in
+          record { tree = x.at.it.link; lies = lies_below C.growing s h x.tree p.next x.at.it x.lies x.at.there; on = ap (λ u. u.link) x.at.stands; gives = refl } in
           let same : h ≡ g = omega arith in
-          (l, x.rest, subst (λ j. Gives C s q j (first_of e.link) l) same child, x.is ∙ ap (λ u. cond (C.may_hold u.key q) l [] ++ x.rest) x.stands, x.pending)
+          (l, x.rest, subst (λ j. Gives C s q j (first_of e.link) l) same child, x.is ∙ ap (λ u. cond (C.may_hold u.key q) l [] ++ x.rest) x.at.stands, x.pending)

@@ -10,7 +10,7 @@ use Rattle.insertion.specs.declared.refusal.InsertRefusal.{InsertRefusal}
 use Rattle.insertion.specs.declared.refusal.InsertRefusal.TheVariants.{TooManyLevels, TooFewPages}
 
 -- n pages are split, of so many levels; b says whether that is all.
-abbrev asked_of : Bool → ℕ → ℕ → ℕ → Option InsertRefusal
+abbrev pub asked_of : Bool → ℕ → ℕ → ℕ → Option InsertRefusal
 asked_of b n levels free =
     cond (b && leb 7 levels) (Some TooManyLevels) (cond (leb (n + cond b 1 0) free) None (Some (TooFewPages (n + cond b 1 0) free)))
 
@@ -46,7 +46,7 @@ module _ (steps : List Step) (leaf : Step) (full : leaf.full ≡ true) where
 
 -- Of a full leaf, by the words of the code: n pages are split.
 pub of_full : (a : Above) (steps : List Step) (leaf : Step) (free n : ℕ) → Knows a 1 steps → leaf.full ≡ true → n ≡ min (a.run + 1) 4294967295
-    → asked (leaf ∷ steps) free ≡ cond (eqb n a.levels && leb 7 a.levels) (Some TooManyLevels) (cond (leb (n + cond (eqb n a.levels) 1 0) free) None (Some (TooFewPages (n + cond (eqb n a.levels) 1 0) free)))
+    → asked (leaf ∷ steps) free ≡ asked_of (eqb n a.levels) n a.levels free
 of_full a steps leaf free n kn full is =
     let run : n ≡ 1 + splits steps = omega (arith, splits_within steps, kn.levels, kn.low) in
     let all : a.levels ≡ 1 + length steps = omega (arith, kn.levels) in

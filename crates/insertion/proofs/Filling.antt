@@ -7,8 +7,7 @@ use Rattle.page_store.specs.declared.refusal.StoreRefusal.{StoreRefusal}
 use Rattle.page_store.proofs.Calling.{Held, changed_held}
 use Rattle.key_class.specs.Class.{Growing, Class, Lawful}
 use Rattle.key_class.specs.Joined.{joined}
-use Rattle.node.specs.Nodes.{Entry, keys, node_words, stay, go}
-use Rattle.node.specs.Reading.{level_in}
+use Rattle.node.specs.Nodes.{Entry, keys, stay, go}
 use Rattle.node.specs.InMemory.{words_in, Stands}
 use Rattle.node.specs.declared.memory.Node.{Node}
 use Rattle.tree_pages.specs.OneNode.{Saves}
@@ -21,10 +20,6 @@ use Rattle.insertion.specs.declared.change.Change.{Change}
 pub taken : {s t : Pages} {w : Words} {p : ℕ} (r : Result ℕ StoreRefusal) → Some p ≡ result_ok r → Takes s t w r → Took s t w p
 taken {s} {t} {w} {p} (Ok q) e h = let same : p ≡ q = cc in rw same h
 taken {s} {t} {w} {p} (Err x) e h = cc
-
-pub level_is : {K : Type 0} (G : Growing K) (w : Words) (level : ℕ) (es : List (Entry K ℕ)) → w ≡ node_words G level es → level_in w ≡ level
-unfolding node_words
-level_is G w level es is = ap level_in is
 
 module _ {K : Type 0} {G : Growing K} where
   pub saved : {s t : Pages} {p : ℕ} {n : Node} {k : K} (level : ℕ) (es : List (Entry K ℕ)) → Stands G n level es → length es ≤ 12 → Held s p → Saves G s t p n (Some k)

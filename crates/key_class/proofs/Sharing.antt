@@ -69,17 +69,20 @@ module _ {K : Type 0} (G : Growing K) (s : Seeds) (p : ℕ) (g : Groups K) (k : 
       at false true b (inr u) (inr t) e f = absurd (true≢false t.0)
       at false false b (inr u) (inl t) e f = absurd (false≢true t.0)
 
--- What is known of the groups of n keys, with the seeds s, at place p: the keys in neither group, and the seeds still
--- to come, are the keys from there on.
+-- At place p of n keys, with the seeds s: the keys in neither group, and the seeds still to come, are those from there on.
+abbrev Left : {K : Type 0} → Seeds → (n p : ℕ) → Groups K → Type 0
+Left s n p g = p + (g.left + one (leb p s.first) + one (leb p s.second)) ≡ n
+
+-- What is known of the groups there.
 pub record Fair {K : Type 0} (s : Seeds) (n p : ℕ) (g : Groups K) : Type 0 where
-  pub left : p + (g.left + one (leb p s.first) + one (leb p s.second)) ≡ n
+  pub left : Left s n p g
   pub all : size g ≡ n
   pub four_stay : 8 ≤ n → 4 ≤ g.stay.count + g.left
   pub four_go : 8 ≤ n → 4 ≤ g.go.count + g.left
 
 -- What is enough for each to get four, of groups of eight keys or more.
 record Ready {K : Type 0} (s : Seeds) (n p : ℕ) (g : Groups K) : Type 0 where
-  left : p + (g.left + one (leb p s.first) + one (leb p s.second)) ≡ n
+  left : Left s n p g
   eight : 8 ≤ size g
   four_stay : 4 ≤ g.stay.count + g.left
   four_go : 4 ≤ g.go.count + g.left
@@ -96,14 +99,13 @@ module _ {K : Type 0} (G : Growing K) (s : Seeds) (n : ℕ) (ordered : s.first <
   ready p g h r = record { left = r.left; eight = omega (arith, r.all); four_stay = r.four_stay h; four_go = r.four_go h }
 
   -- One place on.
-  left_on : (p : ℕ) (g : Groups K) (k : K) → p < n → p + (g.left + one (leb p s.first) + one (leb p s.second)) ≡ n → (b : Bool) (g' : Groups K) → Turn G s p g k b g'
-      → p + 1 + (g'.left + one (leb (p + 1) s.first) + one (leb (p + 1) s.second)) ≡ n
+  left_on : (p : ℕ) (g : Groups K) (k : K) → p < n → Left s n p g → (b : Bool) (g' : Groups K) → Turn G s p g k b g' → Left s n (p + 1) g'
   left_on p g k l e _ _ (first f) = let a = passed p s.first in let b = passed p s.second in omega arith
   left_on p g k l e _ _ (second d f) = let a = passed p s.first in let b = passed p s.second in omega arith
   left_on p g k l e _ _ (goes d f h) = let a = passed p s.first in let b = passed p s.second in omega arith
   left_on p g k l e _ _ (stays d f h) = let a = passed p s.first in let b = passed p s.second in omega arith
 
-  size_on : (p : ℕ) (g : Groups K) (k : K) → p < n → p + (g.left + one (leb p s.first) + one (leb p s.second)) ≡ n → (b : Bool) (g' : Groups K) → Turn G s p g k b g' → size g' ≡ size g
+  size_on : (p : ℕ) (g : Groups K) (k : K) → p < n → Left s n p g → (b : Bool) (g' : Groups K) → Turn G s p g k b g' → size g' ≡ size g
   size_on p g k l e _ _ (first f) = refl
   size_on p g k l e _ _ (second d f) = refl
   size_on p g k l e _ _ (goes d f h) = let a = passed p s.first in let b = passed p s.second in omega arith
@@ -115,8 +117,8 @@ module _ {K : Type 0} (G : Growing K) (s : Seeds) (n : ℕ) (ordered : s.first <
       fours : {b : Bool} {g' : Groups K} → Turn G s p g k b g' → (4 ≤ g'.stay.count + g'.left) × (4 ≤ g'.go.count + g'.left)
       fours (first f) = (r.four_stay, r.four_go)
       fours (second d f) = (r.four_stay, r.four_go)
-      fours (goes d f h) = let a = passed p s.first in let b = passed p s.second in (omega (arith, r.left, r.eight, r.four_stay, r.four_go), omega (arith, r.left, r.eight, r.four_stay, r.four_go))
-      fours (stays d f h) = let a = passed p s.first in let b = passed p s.second in (omega (arith, r.left, r.eight, r.four_stay, r.four_go), omega (arith, r.left, r.eight, r.four_stay, r.four_go))
+      fours (goes d f h) = let a = passed p s.first in let b = passed p s.second in (omega arith, omega arith)
+      fours (stays d f h) = let a = passed p s.first in let b = passed p s.second in (omega arith, omega arith)
 
   pub fair_on : (p : ℕ) (g : Groups K) (k : K) → p < n → Fair s n p g → (b : Bool) (g' : Groups K) → Turn G s p g k b g' → Fair s n (p + 1) g'
   fair_on p g k l r b g' t = record {
@@ -138,7 +140,7 @@ module _ {K : Type 0} (G : Growing K) (s : Seeds) (n : ℕ) (ordered : s.first <
   enough_back p g k bs _ _ (stays d e f) q = let a = passed p s.first in let b = passed p s.second in record { stay = omega arith; go = omega arith }
 
   enough : (p : ℕ) (g : Groups K) (ks : List K) → p + length ks ≡ n → Ready s n p g → Enough p g (marks_from G s p g ks)
-  enough p g [] e r = let a = passed p s.first in let b = passed p s.second in record { stay = omega (arith, r.left, r.eight, r.four_stay, r.four_go); go = omega (arith, r.left, r.eight, r.four_stay, r.four_go) }
+  enough p g [] e r = let a = passed p s.first in let b = passed p s.second in record { stay = omega arith; go = omega arith }
   enough p g (k ∷ ks) e r =
       let t = turn G s p g k in
       enough_back p g k (marks_from G s (p + 1) (next G s p g k) ks) _ _ t (enough (p + 1) (next G s p g k) ks (omega arith) (ready_on p g k (omega arith) r _ _ t))

@@ -1,6 +1,6 @@
 -- The loops of the quadratic split, one turn on.
 use Rattle.std.proofs.Common.{◌≡◌, ◌≢◌, ℕ, ◌+◌, ◌-◌, ◌<◌, ◌≤◌, Bool, true, false, if◌then◌else◌, eqb, ◌⊎◌, ◌==◌, List, [], ◌∷◌, ◌++◌, length, get_or, take, drop, set, replicate, slice_get, Some, IfSome, inl, inr, sym, refl, ap, ap₂, ◌∙◌, subst, arith, append-nil, length-set, length-take-le, get_or-set_other, get_or-set_same, get_or-take, take_all, take_at}
-use Rattle.std.proofs.lemmas.List.{drop_more, take_more, take_more_set, append_assoc, get_or-replicate, at_drop_all}
+use Rattle.std.proofs.lemmas.List.{take_more, take_more_set, append_assoc, get_or-replicate, at_drop_all}
 use Rattle.std.proofs.lemmas.Option.{slice_get_cases, MatchOption-at_some, slice_get_within, slice_get-get_or, get_or_from_slice_get}
 use Rattle.std.proofs.lemmas.Bool.Decides.{eqb_tells, nat_tests}
 use Rattle.key_class.specs.declared.groups.Groups.{Groups}
@@ -32,11 +32,14 @@ module _ {K : Type 0} (G : Growing K) where
     | inr p ↦ absurd (omega arith)
   ]
 
+  -- One mark more, however it is written.
+  marks_on : (s : Seeds) (p : ℕ) (ks : List K) (k : K) (g g' : Groups K) (marks marks' : List Bool) (b : Bool) → slice_get ks p ≡ Some k → take (p + 1) marks' ≡ take p marks ++ b ∷ []
+      → b ≡ mark G s p g k → g' ≡ next G s p g k → take (p + 1) marks' ++ marks_from G s (p + 1) g' (drop (p + 1) ks) ≡ take p marks ++ marks_from G s p g (drop p ks)
+  marks_on s p ks k g g' marks marks' b at t e f = rw (t, append_assoc, e, f) (ap (λ l. take p marks ++ marks_from G s p g l) (sym (drop_at ks p k at)))
+
   pub marks_more : (s : Seeds) (p : ℕ) (ks : List K) (k : K) (g g' : Groups K) (marks : List Bool) (b : Bool) → p < length ks → p < length marks → k ≡ get_or ks p k
       → b ≡ mark G s p g k → g' ≡ next G s p g k → take (p + 1) (set marks p b) ++ marks_from G s (p + 1) g' (drop (p + 1) ks) ≡ take p marks ++ marks_from G s p g (drop p ks)
-  marks_more s p ks k g g' marks b h l at e f =
-      rw (take_more_set marks p b l, append_assoc, e, f)
-      (ap (λ l. take p marks ++ marks_from G s p g l) (sym (drop_more ks p k h ∙ ap (λ x. x ∷ drop (p + 1) ks) (sym at))))
+  marks_more s p ks k g g' marks b h l at e f = marks_on s p ks k g g' marks (set marks p b) b (slice_get-get_or ks p k h ∙ ap Some (sym at)) (take_more_set marks p b l) e f
 
   -- One key more is in the groups, at most.
   next_size : (g : Groups K) (k : K) (x y b : Bool) → size (if x then g else if y then g else placed G g k b) ≤ size g + 1
@@ -85,7 +88,7 @@ module _ {K : Type 0} (G : Growing K) where
           long = n;
           fair = subst (Fair s (length ks) (p + 1)) (sym f) (fair_on G s (length ks) w.0 w.1 p g k l m.fair _ _ (turn G s p g k));
           rest = λ q h o. same q (omega arith) ∙ m.rest q (omega arith) o;
-          so_far = rw (t, append_assoc, e, f) (ap (λ l. take p marks ++ marks_from G s p g l) (sym (drop_at ks p k at)) ∙ m.so_far);
+          so_far = marks_on s p ks k g g' marks marks' b at t e f ∙ m.so_far;
         }
 
     pub marked_seed : (p : ℕ) (g : Groups K) (marks : List Bool) → p < length ks → (p ≡ s.first) ⊎ (p ≡ s.second) → Marked s ks p g marks → Marked s ks (p + 1) g marks

@@ -7,7 +7,7 @@ use Rattle.std.proofs.lemmas.Grind.{flat_map-append}
 use Rattle.std.proofs.lemmas.List.{take-append-drop, take_at, take_more, drop_at, get_or-drop, length-take-le}
 use Rattle.key_class.specs.Class.{Growing, Coded}
 use Rattle.node.specs.Nodes.{Entry, entry_words, node_words}
-use Rattle.node.specs.Reading.{rows, entry_in}
+use Rattle.node.specs.Reading.{level_in, rows, entry_in}
 use Rattle.node.proofs.Rows.{length_entries, key_part, link_part, entry_back, rows_of}
 
 -- The element at place i, between those before it and those behind it.
@@ -78,6 +78,9 @@ laid_append G level n es fs rest =
 
 pub count_is : {K : Type 0} (G : Growing K) (level : ℕ) (es : List (Entry K ℕ)) (w : List ℕ) → w ≡ node_words G level es → get_or w 1 0 ≡ length es
 count_is G level es w is = ap (λ (u : List ℕ). get_or u 1 0) (is ∙ node_laid G level es)
+
+pub level_is : {K : Type 0} (G : Growing K) (level : ℕ) (es : List (Entry K ℕ)) (w : List ℕ) → w ≡ node_words G level es → level_in w ≡ level
+level_is G level es w is = ap level_in (is ∙ node_laid G level es)
 
 -- The entry at place i, whose row is r.
 pub record EntryAt {K : Type 0} (G : Growing K) (es : List (Entry K ℕ)) (i : ℕ) (r : List ℕ) : Type 0 where

@@ -103,8 +103,7 @@ module _ {K : Type 0} {G : Growing K} (C : Coded G) where
   -- The entry that was written is read back.
   pub entry_back : (e : Entry K ℕ) → entry_in G (entry_words G e) ≡ Some e
   entry_back e =
-      ap (λ n. option_map (λ k. record { key = k; link = n }) (G.unsqueeze (take 4 (entry_words G e)))) (link_part e)
-      ∙ ap (λ u. option_map (λ k. record { key = k; link = e.link }) (G.unsqueeze u)) (key_part e)
+      sym (entry_parts G (G.squeeze e.key) e.link (entry_words G e) (sym (key_part e)) (sym (link_part e)))
       ∙ ap (option_map (λ k. record { key = k; link = e.link })) (C.round_trip e.key)
 
   first_rows_of : (es : List (Entry K ℕ)) (pad : List ℕ) → first_chunks 5 (length es) (flat_map (entry_words G) es ++ pad) ≡ map (entry_words G) es

@@ -11,6 +11,7 @@ use Rattle.node.specs.Reading.{level_in}
 use Rattle.node.specs.InMemory.{words_in, Stands, Pooled}
 use Rattle.node.specs.declared.memory.Node.{Node}
 use Rattle.node.specs.declared.memory.Pool.{Pool}
+use Rattle.node.proofs.Places.{level_is}
 use Rattle.gist.proofs.Nodes.{split_sizes}
 use Rattle.tree_pages.specs.OneNode.{Saves}
 use Rattle.tree_pages.proofs.Over.{set_held}
@@ -26,10 +27,6 @@ module _ {K : Type 0} (G : Growing K) where
   pub no_entry : (p : ℕ) (es : List (Entry K ℕ)) → 1 ≤ length es → None ≡ entry_to G p es → ⊥
   no_entry p [] l e = omega arith
   no_entry p (x ∷ es) l e = none-some _ e
-
-  level_is : (w : Words) (level : ℕ) (es : List (Entry K ℕ)) → w ≡ node_words G level es → level_in w ≡ level
-  unfolding node_words
-  level_is w level es is = ap level_in is
 
 module _ {K : Type 0} {G : Growing K} where
   -- One node is written.
@@ -86,7 +83,7 @@ module _ {K Q : Type 0} {G : Growing K} {C : Class K Q} {y x : PagedNode} where
     stands = λ level ys xs sy sx many few.
         let p = fits (Pooled G some) (0 + length ys) 15 [] (omega arith) (push level [] ys new sy) in
         let q = fits (Pooled G all) (length ys + length xs) 15 ys few (push_more level ys xs p sx) in
-        let e : lv ≡ level = lev ∙ level_is G (words_in x.node) level xs sx in
+        let e : lv ≡ level = lev ∙ level_is G level xs (words_in x.node) sx in
         subst (λ (l : ℕ). Stands G both.0 l (stay (C.split (keys (ys ++ xs))) (ys ++ xs)) × Stands G both.1 l (go (C.split (keys (ys ++ xs))) (ys ++ xs))) e
         (split (ys ++ xs) q (omega (arith, length-append ys xs)) (omega (arith, length-append ys xs)));
     sizes = λ ys xs many few.

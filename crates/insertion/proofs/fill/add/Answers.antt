@@ -1,7 +1,8 @@
 use Rattle.std.proofs.Common.{◌≡◌, [], ◌∷◌, ◌++◌, length, sym, ◌∙◌, arith}
 use Rattle.std.proofs.lemmas.List.{length_push}
 use Rattle.std.proofs.lemmas.Bool.{ltb-true, ltb-false, le-leb, lt-ltb}
-use Rattle.insertion.proofs.Filling.{level_is, saved, added}
+use Rattle.node.proofs.Places.{level_is}
+use Rattle.insertion.proofs.Filling.{saved, added}
 use Rattle.insertion.proofs.fill.add.Goals as goal
 
 pub returns-then-push : goal.returns-then-push
@@ -23,6 +24,6 @@ returns g c = record {
       let all = c.push_all.ensures level [] es c.new-pool.ensures full.1 in
       let one = c.push-2.ensures es (rw (all.0 ∙ le-leb _ 15 (omega arith)) at all.1) in
       let pooled = rw (one.0 ∙ lt-ltb _ 15 (omega arith)) at one.1 in
-      let parts = rw (c.level.ensures ∙ level_is g.K.Key.growing c.push.new.self.words level es full.1) at (c.split.ensures (es ++ e ∷ []) pooled (omega arith) (omega arith)) in
+      let parts = rw (c.level.ensures ∙ level_is g.K.Key.growing level es c.push.new.self.words full.1) at (c.split.ensures (es ++ e ∷ []) pooled (omega arith) (omega arith)) in
       added g.met.K.KeyClass.lawful level (es ++ e ∷ []) more room.held (room.spare (omega arith)) parts.0 parts.1 c.share_out.result c.share_out.ensures;
 }
